@@ -1,0 +1,5 @@
+pub mod FormatLaws
+pub mod ParityLaws
+pub mod VoteLaws
+pub mod WordLaws
+pub mod LimitLaws

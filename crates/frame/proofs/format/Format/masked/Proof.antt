@@ -1,0 +1,23 @@
+use mathlib.Core.Path.{ap}
+use Prim.Native.Nat.{ℕ, _%_}
+use native.Mathlib.Nat.{mod-lt}
+use native.Mathlib.Omega.{arith}
+use Rattle.choice.proofs.Picks.{picks}
+use borrow.Author.Needs.{needs}
+use Rattle.frame.proofs.format.Format.masked.Statement.{statement}
+use Rattle.frame.proofs.format.Format.masked.Tie as tie
+use Rattle.frame.proofs.format.Format.masked.Reads as reads
+use Rattle.frame.proofs.format.Format.masked.Lts as lts
+use Rattle.frame.proofs.format.Size.weight.Reads as weight-reads
+
+weight-requires : tie.Need-weight-requires
+weight-requires c κs = search needs
+
+rem-result : tie.Need-rem-result
+rem-result c = search needs
+
+returns : tie.Need-returns
+returns c = (ap (λ (w : ℕ). c .before .args .x % w) (c .weight .ensures .0), omega (arith, mod-lt (c .before .args .x) {m = c .weight .result} (omega arith)))
+
+pub masked-spec : {M : Type 1} → statement M
+masked-spec = tie.close (tie.spec weight-requires rem-result returns)

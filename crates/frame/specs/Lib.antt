@@ -1,0 +1,5 @@
+pub mod Format
+pub mod Parity
+pub mod Word
+pub mod Vote
+pub mod Limit

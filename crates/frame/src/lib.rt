@@ -1,0 +1,12 @@
+// The frame: its format, the word it puts on the line, parity, the majority vote, and the recommended rate limits. It knows nothing
+// of time or registers.
+mod format;
+mod limit;
+mod parity;
+mod vote;
+mod word;
+
+pub use format::Format;
+pub use format::Parity;
+pub use format::Size;
+pub use vote::majority;
