@@ -1,0 +1,33 @@
+use Rattle.choice.proofs.Picks.{picks}
+use borrow.Author.Needs.{needs}
+use Rattle.usart.proofs.queue.Queue.stored.Statement.{statement}
+use Rattle.usart.proofs.queue.Queue.stored.Tie as tie
+use Rattle.usart.proofs.queue.Queue.stored.Reads as reads
+use Rattle.usart.proofs.queue.Queue.stored.Lts as lts
+use Rattle.usart.proofs.queue.Frame.marked.Reads as marked-reads
+
+marked-requires : tie.Need-marked-requires
+marked-requires c κs = search needs
+
+enum-told : tie.Need-enum-told
+enum-told c = search needs
+
+enum-known-p : tie.Need-enum-known-p
+enum-known-p c = search needs
+
+enum-known-p-2 : tie.Need-enum-known-p-2
+enum-known-p-2 c = search needs
+
+returns : tie.Need-returns
+returns c = rw (c .enum-told .given .1, c .before .before .marked .ensures)
+
+returns-2 : tie.Need-returns-2
+returns-2 c = rw (c .before .p .given .1, c .before .before .before .marked .ensures)
+
+returns-3 : tie.Need-returns-3
+returns-3 c = rw (c .before .p2 .given .1)
+
+pub stored-spec : {M : Type 1} → statement M
+stored-spec =
+    tie.close
+    (tie.spec marked-requires enum-told enum-known-p enum-known-p-2 returns returns-2 returns-3)

@@ -1,0 +1,29 @@
+use Rattle.choice.proofs.Picks.{picks}
+use Rattle.usart.specs.Receiver.{enabledOf}
+use borrow.Author.Needs.{needs}
+use Rattle.usart.proofs.receiver.Receiver.enabled.Statement.{statement}
+use Rattle.usart.proofs.receiver.Receiver.enabled.Tie as tie
+use Rattle.usart.proofs.receiver.Receiver.enabled.Reads as reads
+use Rattle.usart.proofs.receiver.Receiver.enabled.Lts as lts
+use Rattle.usart.proofs.receiver.Receiver.stopped.Reads as stopped-reads
+
+returns : tie.Need-returns
+unfolding enabledOf
+returns c = search picks
+
+stopped-requires : tie.Need-stopped-requires
+stopped-requires c κs = search needs
+
+returns-2 : tie.Need-returns-2
+unfolding enabledOf
+returns-2 c = search picks
+
+stopped-requires-2 : tie.Need-stopped-requires-2
+stopped-requires-2 c κs = search needs
+
+returns-3 : tie.Need-returns-3
+unfolding enabledOf
+returns-3 c = search picks
+
+pub enabled-spec : {M : Type 1} → statement M
+enabled-spec = tie.close (tie.spec returns stopped-requires returns-2 stopped-requires-2 returns-3)

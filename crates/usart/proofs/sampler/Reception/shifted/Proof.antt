@@ -1,0 +1,25 @@
+use Rattle.choice.proofs.Picks.{picks}
+use Rattle.usart.specs.Sampler.{shiftedOf}
+use borrow.Author.Needs.{needs}
+use Rattle.usart.proofs.sampler.Reception.shifted.Statement.{statement}
+use Rattle.usart.proofs.sampler.Reception.shifted.Tie as tie
+use Rattle.usart.proofs.sampler.Reception.shifted.Reads as reads
+use Rattle.usart.proofs.sampler.Reception.shifted.Lts as lts
+use Rattle.frame.proofs.format.Format.top.Reads as top-reads
+
+top-requires : tie.Need-top-requires
+top-requires c κs = search needs
+
+add-self : tie.Need-add-self
+add-self c = search needs
+
+returns : tie.Need-returns
+unfolding shiftedOf
+returns c = rw (← c .top .ensures .0, c .before .if1 .taken)
+
+returns-2 : tie.Need-returns-2
+unfolding shiftedOf
+returns-2 c = search picks
+
+pub shifted-spec : {M : Type 1} → statement M
+shifted-spec = tie.close (tie.spec top-requires add-self returns returns-2)

@@ -1,0 +1,46 @@
+use Rattle.choice.proofs.Picks.{picks}
+use Rattle.usart.specs.Sampler.{votedOf}
+use borrow.Author.Needs.{needs}
+use Rattle.usart.proofs.sampler.Reception.voted.Statement.{statement}
+use Rattle.usart.proofs.sampler.Reception.voted.Tie as tie
+use Rattle.usart.proofs.sampler.Reception.voted.Reads as reads
+use Rattle.usart.proofs.sampler.Reception.voted.Lts as lts
+use Rattle.frame.proofs.format.Format.first_vote.Reads as first-vote-reads
+use Rattle.frame.proofs.majority.Reads as majority-reads
+use Rattle.usart.proofs.sampler.Reception.cast.Reads as cast-reads
+use Rattle.usart.proofs.sampler.Reception.decided.Reads as decided-reads
+
+majority-requires : tie.Need-majority-requires
+majority-requires c κs = search needs
+
+cast-requires : tie.Need-cast-requires
+cast-requires c κs = search needs
+
+first-vote-requires : tie.Need-first-vote-requires
+first-vote-requires c κs = search needs
+
+add-if1 : tie.Need-add-if1
+add-if1 c = search needs
+
+decided-requires : tie.Need-decided-requires
+decided-requires c κs = search needs
+
+returns : tie.Need-returns
+unfolding votedOf
+returns c = rw (← c .before .before .before .first-vote .ensures .0, ← c .before .before .before .before .cast .ensures, ← c .before .before .before .before .before .majority .ensures) (search picks)
+
+returns-2 : tie.Need-returns-2
+unfolding votedOf
+returns-2 c = rw (← c .before .before .first-vote .ensures .0, ← c .before .before .before .cast .ensures) (search picks)
+
+pub voted-spec : {M : Type 1} → statement M
+voted-spec =
+    tie.close
+    (tie.spec
+    majority-requires
+    cast-requires
+    first-vote-requires
+    add-if1
+    decided-requires
+    returns
+    returns-2)

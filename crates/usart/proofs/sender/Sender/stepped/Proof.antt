@@ -1,0 +1,63 @@
+use Rattle.choice.proofs.Picks.{picks}
+use Rattle.usart.specs.Sender.{steppedOf}
+use borrow.Author.Needs.{needs}
+use Rattle.usart.proofs.sender.Sender.stepped.Statement.{statement}
+use Rattle.usart.proofs.sender.Sender.stepped.Tie as tie
+use Rattle.usart.proofs.sender.Sender.stepped.Reads as reads
+use Rattle.usart.proofs.sender.Sender.stepped.Lts as lts
+use Rattle.frame.proofs.format.Format.last_bit.Reads as last-bit-reads
+use Rattle.frame.proofs.format.Format.samples.Reads as samples-reads
+use Rattle.usart.proofs.sender.Sender.at.Reads as at-reads
+use Rattle.usart.proofs.sender.Sender.moved.Reads as moved-reads
+
+samples-requires : tie.Need-samples-requires
+samples-requires c κs = search needs
+
+sub-if1 : tie.Need-sub-if1
+sub-if1 c = search needs
+
+add-t7 : tie.Need-add-t7
+add-t7 c = search needs
+
+at-requires : tie.Need-at-requires
+at-requires c κs = search needs
+
+returns : tie.Need-returns
+unfolding steppedOf
+returns c = rw (← c .before .before .before .before .samples .ensures .0) (search picks)
+
+last-bit-requires : tie.Need-last-bit-requires
+last-bit-requires c κs = search needs
+
+add-t10 : tie.Need-add-t10
+add-t10 c = search needs
+
+at-requires-2 : tie.Need-at-requires-2
+at-requires-2 c κs = search needs
+
+returns-2 : tie.Need-returns-2
+unfolding steppedOf
+returns-2 c = rw (← c .before .before .before .before .before .before .before .samples .ensures .0, ← c .before .before .before .before .last-bit .ensures) (search picks)
+
+moved-requires : tie.Need-moved-requires
+moved-requires c κs = search needs
+
+returns-3 : tie.Need-returns-3
+unfolding steppedOf
+returns-3 c = rw (← c .before .before .before .before .before .before .samples .ensures .0, ← c .before .before .before .last-bit .ensures) (search picks)
+
+pub stepped-spec : {M : Type 1} → statement M
+stepped-spec =
+    tie.close
+    (tie.spec
+    samples-requires
+    sub-if1
+    add-t7
+    at-requires
+    returns
+    last-bit-requires
+    add-t10
+    at-requires-2
+    returns-2
+    moved-requires
+    returns-3)

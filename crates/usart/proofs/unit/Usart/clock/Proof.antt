@@ -1,0 +1,30 @@
+use Rattle.choice.proofs.Picks.{picks}
+use Rattle.usart.specs.Unit.{clockOf}
+use borrow.Author.Needs.{needs}
+use Rattle.usart.proofs.unit.Usart.clock.Statement.{statement}
+use Rattle.usart.proofs.unit.Usart.clock.Tie as tie
+use Rattle.usart.proofs.unit.Usart.clock.Reads as reads
+use Rattle.usart.proofs.unit.Usart.clock.Lts as lts
+use Rattle.usart.proofs.baud.Baud.next.Reads as next-reads
+use Rattle.usart.proofs.baud.Baud.ticks.Reads as ticks-reads
+use Rattle.usart.proofs.unit.Usart.ticked.Reads as ticked-reads
+
+ticks-requires : tie.Need-ticks-requires
+ticks-requires c κs = search needs
+
+ticked-requires : tie.Need-ticked-requires
+ticked-requires c κs = search needs
+
+returns : tie.Need-returns
+unfolding clockOf
+returns c = rw (← c .before .before .ticks .ensures) (search picks)
+
+next-requires : tie.Need-next-requires
+next-requires c κs = search needs
+
+returns-2 : tie.Need-returns-2
+unfolding clockOf
+returns-2 c = rw (c .next .ensures, ← c .before .before .before .before .before .before .ticks .ensures) (search picks)
+
+pub clock-spec : {M : Type 1} → statement M
+clock-spec = tie.close (tie.spec ticks-requires ticked-requires returns next-requires returns-2)

@@ -1,0 +1,16 @@
+use Rattle.choice.proofs.Picks.{picks}
+use borrow.Author.Needs.{needs}
+use Rattle.usart.proofs.unit.Usart.controlled.Statement.{statement}
+use Rattle.usart.proofs.unit.Usart.controlled.Tie as tie
+use Rattle.usart.proofs.unit.Usart.controlled.Reads as reads
+use Rattle.usart.proofs.unit.Usart.controlled.Lts as lts
+use Rattle.usart.proofs.receiver.Receiver.enabled.Reads as enabled-reads
+
+enabled-requires : tie.Need-enabled-requires
+enabled-requires c κs = search needs
+
+returns : tie.Need-returns
+returns c = rw (c .enabled .ensures)
+
+pub controlled-spec : {M : Type 1} → statement M
+controlled-spec = tie.close (tie.spec enabled-requires returns)

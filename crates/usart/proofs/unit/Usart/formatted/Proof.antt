@@ -1,0 +1,42 @@
+use borrow.Author.Tests.{eq-eqb, ne-eqb}
+use Rattle.usart.specs.Write.{formattedOf}
+use Rattle.choice.proofs.Picks.{picks}
+use borrow.Author.Needs.{needs}
+use Rattle.usart.proofs.unit.Usart.formatted.Statement.{statement}
+use Rattle.usart.proofs.unit.Usart.formatted.Tie as tie
+use Rattle.usart.proofs.unit.Usart.formatted.Reads as reads
+use Rattle.usart.proofs.unit.Usart.formatted.Lts as lts
+use Rattle.usart.proofs.settings.settings.Reads as settings-reads
+use Rattle.usart.proofs.unit.Usart.with_format.Reads as with-format-reads
+
+settings-requires : tie.Need-settings-requires
+settings-requires c κs = search needs
+
+settings-requires-2 : tie.Need-settings-requires-2
+settings-requires-2 c κs = search needs
+
+returns : tie.Need-returns
+unfolding formattedOf
+returns c = rw (c .before .before .before .if1 .taken, ← c .before .before .settings .ensures, ← c .before .settings2 .ensures, eq-eqb _ _ (c .if2 .taken))
+
+returns-2 : tie.Need-returns-2
+unfolding formattedOf
+returns-2 c = rw (c .before .before .before .if1 .taken, ← c .before .before .settings .ensures, ← c .before .settings2 .ensures, ne-eqb _ _ (c .if2 .left))
+
+with-format-requires : tie.Need-with-format-requires
+with-format-requires c κs = search needs
+
+returns-3 : tie.Need-returns-3
+unfolding formattedOf
+returns-3 c = rw (c .with-format .ensures) (search picks)
+
+pub formatted-spec : {M : Type 1} → statement M
+formatted-spec =
+    tie.close
+    (tie.spec
+    settings-requires
+    settings-requires-2
+    returns
+    returns-2
+    with-format-requires
+    returns-3)

@@ -1,0 +1,34 @@
+use Rattle.choice.proofs.Picks.{picks}
+use Rattle.usart.specs.Unit.{outputOf}
+use borrow.Author.Needs.{needs}
+use Rattle.usart.proofs.unit.Usart.output.Statement.{statement}
+use Rattle.usart.proofs.unit.Usart.output.Tie as tie
+use Rattle.usart.proofs.unit.Usart.output.Reads as reads
+use Rattle.usart.proofs.unit.Usart.output.Lts as lts
+use Rattle.usart.proofs.sender.Sender.txd.Reads as txd-reads
+use Rattle.usart.proofs.unit.Usart.driven.Reads as driven-reads
+use Rattle.usart.proofs.unit.digit.Reads as digit-reads
+
+driven-requires : tie.Need-driven-requires
+driven-requires c κs = search needs
+
+txd-requires : tie.Need-txd-requires
+txd-requires c κs = search needs
+
+digit-requires : tie.Need-digit-requires
+digit-requires c κs = search needs
+
+add-result : tie.Need-add-result
+add-result c = search needs
+
+returns : tie.Need-returns
+unfolding outputOf
+returns c = rw (c .digit .ensures .0, c .before .txd .ensures, ← c .before .before .before .driven .ensures) (search picks)
+
+returns-2 : tie.Need-returns-2
+unfolding outputOf
+returns-2 c = rw (← c .before .driven .ensures) (search picks)
+
+pub output-spec : {M : Type 1} → statement M
+output-spec =
+    tie.close (tie.spec driven-requires txd-requires digit-requires add-result returns returns-2)

@@ -1,0 +1,16 @@
+use Rattle.choice.proofs.Picks.{picks}
+use borrow.Author.Needs.{needs}
+use Rattle.usart.proofs.unit.Usart.reset.Statement.{statement}
+use Rattle.usart.proofs.unit.Usart.reset.Tie as tie
+use Rattle.usart.proofs.unit.Usart.reset.Reads as reads
+use Rattle.usart.proofs.unit.Usart.reset.Lts as lts
+use Rattle.usart.proofs.receiver.Receiver.stopped.Reads as stopped-reads
+
+stopped-requires : tie.Need-stopped-requires
+stopped-requires c κs = search needs
+
+returns : tie.Need-returns
+returns c = rw (c .stopped .ensures)
+
+pub reset-spec : {M : Type 1} → statement M
+reset-spec = tie.close (tie.spec stopped-requires returns)

@@ -1,0 +1,31 @@
+use Rattle.usart.specs.Write.{sizedC}
+use Rattle.choice.proofs.Picks.{picks}
+use borrow.Author.Needs.{needs}
+use Rattle.usart.proofs.unit.Usart.sized_c.Statement.{statement}
+use Rattle.usart.proofs.unit.Usart.sized_c.Tie as tie
+use Rattle.usart.proofs.unit.Usart.sized_c.Reads as reads
+use Rattle.usart.proofs.unit.Usart.sized_c.Lts as lts
+use Rattle.usart.proofs.settings.parity_of.Reads as parity-of-reads
+use Rattle.usart.proofs.unit.Usart.busy.Reads as busy-reads
+use Rattle.usart.proofs.unit.Usart.formatted.Reads as formatted-reads
+
+parity-of-requires : tie.Need-parity-of-requires
+parity-of-requires c κs = search needs
+
+busy-requires : tie.Need-busy-requires
+busy-requires c κs = search needs
+
+formatted-requires : tie.Need-formatted-requires
+formatted-requires c κs = search needs
+
+returns : tie.Need-returns
+unfolding sizedC
+returns c = rw (c .formatted .ensures, c .before .busy .ensures, c .before .before .parity-of .ensures) (search picks)
+
+returns-2 : tie.Need-returns-2
+unfolding sizedC
+returns-2 c = search picks
+
+pub sized-c-spec : {M : Type 1} → statement M
+sized-c-spec =
+    tie.close (tie.spec parity-of-requires busy-requires formatted-requires returns returns-2)

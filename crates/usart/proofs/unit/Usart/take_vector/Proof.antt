@@ -1,0 +1,34 @@
+use mathlib.Core.Path.{sym, refl, _∙_}
+use Rattle.choice.proofs.Picks.{pick-true, pick-false}
+use Rattle.usart.specs.Write.{vectorOf}
+use Rattle.choice.proofs.Picks.{picks}
+use borrow.Author.Needs.{needs}
+use Rattle.usart.proofs.unit.Usart.take_vector.Statement.{statement}
+use Rattle.usart.proofs.unit.Usart.take_vector.Tie as tie
+use Rattle.usart.proofs.unit.Usart.take_vector.Reads as reads
+use Rattle.usart.proofs.unit.Usart.take_vector.Lts as lts
+use Rattle.usart.proofs.sender.Sender.acknowledged.Reads as acknowledged-reads
+use Rattle.usart.proofs.unit.Usart.txc_requested.Reads as txc-requested-reads
+use Rattle.usart.proofs.unit.Usart.with_sender.Reads as with-sender-reads
+
+txc-requested-requires : tie.Need-txc-requested-requires
+txc-requested-requires c κs = search needs
+
+acknowledged-requires : tie.Need-acknowledged-requires
+acknowledged-requires c κs = search needs
+
+with-sender-requires : tie.Need-with-sender-requires
+with-sender-requires c κs = search needs
+
+returns : tie.Need-returns
+unfolding vectorOf
+returns c = pick-true _ _ _ _ (sym (c .before .before .before .txc-requested .ensures) ∙ c .before .before .if1 .taken) (rw (c .with-sender .ensures, c .before .acknowledged .ensures))
+
+returns-2 : tie.Need-returns-2
+unfolding vectorOf
+returns-2 c = pick-false _ _ _ _ (sym (c .before .txc-requested .ensures) ∙ c .if1 .left) refl
+
+pub take-vector-spec : {M : Type 1} → statement M
+take-vector-spec =
+    tie.close
+    (tie.spec txc-requested-requires acknowledged-requires with-sender-requires returns returns-2)

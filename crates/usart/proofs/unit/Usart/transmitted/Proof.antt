@@ -1,0 +1,54 @@
+use Rattle.usart.specs.Write.{transmittedOf}
+use Rattle.choice.proofs.Picks.{picks}
+use borrow.Author.Needs.{needs}
+use Rattle.usart.proofs.unit.Usart.transmitted.Statement.{statement}
+use Rattle.usart.proofs.unit.Usart.transmitted.Tie as tie
+use Rattle.usart.proofs.unit.Usart.transmitted.Reads as reads
+use Rattle.usart.proofs.unit.Usart.transmitted.Lts as lts
+use Rattle.frame.proofs.format.Format.masked.Reads as masked-reads
+use Rattle.usart.proofs.sender.Sender.filled.Reads as filled-reads
+use Rattle.usart.proofs.unit.Usart.with_sender.Reads as with-sender-reads
+use Rattle.usart.proofs.unit.digit.Reads as digit-reads
+
+digit-requires : tie.Need-digit-requires
+digit-requires c κs = search needs
+
+cast-masked : tie.Need-cast-masked
+cast-masked c = search needs
+
+mul-masked : tie.Need-mul-masked
+mul-masked c = search needs
+
+add-masked : tie.Need-add-masked
+add-masked c = search needs
+
+masked-requires : tie.Need-masked-requires
+masked-requires c κs = search needs
+
+filled-requires : tie.Need-filled-requires
+filled-requires c κs = search needs
+
+with-sender-requires : tie.Need-with-sender-requires
+with-sender-requires c κs = search needs
+
+returns : tie.Need-returns
+unfolding transmittedOf
+returns c = rw (c .with-sender .ensures, c .before .filled .ensures, c .before .before .masked .ensures .0, c .before .before .before .digit .ensures .0) (search picks)
+
+returns-2 : tie.Need-returns-2
+unfolding transmittedOf
+returns-2 c = search picks
+
+pub transmitted-spec : {M : Type 1} → statement M
+transmitted-spec =
+    tie.close
+    (tie.spec
+    digit-requires
+    cast-masked
+    mul-masked
+    add-masked
+    masked-requires
+    filled-requires
+    with-sender-requires
+    returns
+    returns-2)

@@ -1,0 +1,9 @@
+pub mod Baud
+pub mod Sender
+pub mod Sampler
+pub mod Queue
+pub mod Receiver
+pub mod Unit
+pub mod Settings
+pub mod Read
+pub mod Write

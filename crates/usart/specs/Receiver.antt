@@ -1,0 +1,42 @@
+-- The receiver: its sampler, and the queue behind it (document 01, 'Receiver').
+use Prim.Native.Nat.{ℕ}
+use mathlib.Core.Bool.{Bool, true, false, not}
+use Rattle.choice.specs.Pick.{pick}
+use Rattle.frame.specs.Word.{dataOf, parityError}
+use Rattle.frame.specs.declared.format.Format.{Format}
+use Rattle.usart.specs.Sampler.{samplerOf}
+use Rattle.usart.specs.Queue.{storedOf}
+use Rattle.usart.specs.declared.sampler.Sampler.{Sampler}
+use Rattle.usart.specs.declared.sampler.Sampler.the-variants.{Idle}
+use Rattle.usart.specs.declared.sampler.Outcome.{Outcome}
+use Rattle.usart.specs.declared.sampler.Outcome.the-variants.{Nothing, Complete}
+use Rattle.usart.specs.declared.sampler.Sampled.{Sampled}
+use Rattle.usart.specs.declared.queue.Frame.{Frame}
+use Rattle.usart.specs.declared.queue.Places.the-variants.{Empty}
+use Rattle.usart.specs.declared.queue.Queue.{Queue}
+use Rattle.usart.specs.declared.receiver.Receiver.{Receiver}
+
+-- each frame with its data, FE (stop voted low) and UPE (parity on and wrong)
+abbrev pub frameOf : Format → ℕ → Bool → Frame
+frameOf f word stop = record { «data» = dataOf f word; fe = not stop; upe = parityError f word; dor = false }
+
+abbrev pub putOf : Format → Queue → Outcome → Queue
+putOf f q Nothing = q
+putOf f q (Complete word stop) = storedOf q (frameOf f word stop)
+
+-- a tick
+abbrev pub receiverOf : Format → Receiver → Bool → Receiver
+receiverOf f r rxd =
+    let o : Sampled = samplerOf f (r .sampler) rxd in record { sampler = o .sampler; queue = putOf f (r .queue) (o .outcome) }
+
+-- only an enabled receiver samples
+unfoldable pub listenedOf : Bool → Format → Receiver → Bool → Receiver
+listenedOf rxen f r rxd = pick rxen (receiverOf f r rxd) r
+
+-- enabling makes it idle and remembering low (house); a disabled receiver rests so too, with no frame and no pending loss
+abbrev pub stopped : Receiver
+stopped = record { sampler = Idle false; queue = record { places = Empty; lost = false } }
+
+-- RXEN before and after a write: clearing it drops the frame under way, the buffer and a pending loss at once
+unfoldable pub enabledOf : Bool → Bool → Receiver → Receiver
+enabledOf before after r = pick before (pick after r stopped) stopped

@@ -1,0 +1,79 @@
+-- The sampler: from the levels at the ticks to completed frames (document 01, 'Receiver', first paragraph).
+use Prim.Native.Nat.{ℕ, _+_, _-_, _/_, _^_}
+use mathlib.Core.Bool.{Bool, true, false}
+use lib.Dec.{eqb, ltb, leb}
+use Rattle.choice.specs.Pick.{pick}
+use Rattle.frame.specs.Format.{samples, firstVote, wordBits}
+use Rattle.frame.specs.Vote.{majorityOf}
+use Rattle.frame.specs.declared.format.Format.{Format}
+use Rattle.usart.specs.declared.sample.Sample.{Sample}
+use Rattle.usart.specs.declared.sampler.Reception.{Reception}
+use Rattle.usart.specs.declared.sampler.Sampler.{Sampler}
+use Rattle.usart.specs.declared.sampler.Sampler.the-variants.{Idle, Receiving}
+use Rattle.usart.specs.declared.sampler.Outcome.{Outcome}
+use Rattle.usart.specs.declared.sampler.Outcome.the-variants.{Nothing, Complete}
+use Rattle.usart.specs.declared.sampler.Sampled.{Sampled}
+
+-- the receiver is between first low sample and stop decision
+abbrev pub isReceiving : Sampler → Bool
+isReceiving (Idle last) = false
+isReceiving (Receiving r) = true
+
+-- a sample that completes no frame
+abbrev pub still : Sampler → Sampled
+still s = record { sampler = s; outcome = Nothing }
+
+abbrev pub firstLow : Reception
+firstLow = record { bit = 0; sample = record { 0 = 1 }; first = false; second = false; word = 0 }
+
+-- idle: a low sample after a remembered high one is sample 1 of the start bit; any other is remembered
+unfoldable pub idleOf : Bool → Bool → Sampled
+idleOf last rxd = pick last (pick rxd (still (Idle rxd)) (still (Receiving firstLow))) (still (Idle rxd))
+
+abbrev pub castAt : Reception → Sample → Bool → Bool → Reception
+castAt r n a b = record { bit = r .bit; sample = n; first = a; second = b; word = r .word }
+
+-- sample n of a bit: the first two voting samples are kept for the third
+unfoldable pub castOf : Format → Reception → Sample → Bool → Reception
+castOf f r n rxd =
+    pick (eqb (n .0) (firstVote f)) (castAt r n rxd (r .second))
+    (pick (eqb (n .0) (firstVote f + 1)) (castAt r n (r .first) rxd)
+    (castAt r n (r .first) (r .second)))
+
+-- each following bit has S samples; the stop bit, D + 1, is not left this way
+unfoldable pub nextBitOf : Format → Reception → Reception
+nextBitOf f r =
+    pick (leb (r .bit) (wordBits f)) (record { bit = r .bit + 1; sample = record { 0 = 0 }; first = false; second = false; word = r .word })
+    r
+
+abbrev pub withWord : Reception → ℕ → Reception
+withWord r w = record { bit = r .bit; sample = r .sample; first = r .first; second = r .second; word = w }
+
+-- low bit first: a bit comes in at the top of the D bits, so that after D of them each is at its place
+unfoldable pub shiftedOf : Format → Reception → Bool → Reception
+shiftedOf f r level = pick level (withWord r (r .word / 2 + 2 ^ (wordBits f - 1))) (withWord r (r .word / 2))
+
+-- the last vote, by the sample rxd. A start bit voted high is dropped; the frame completes at the first stop bit's. Then, and after a
+-- dropped start, the receiver is idle and remembers that last sample
+unfoldable pub decidedOf : Format → Reception → Bool → Bool → Sampled
+decidedOf f r rxd level =
+    pick (eqb (r .bit) 0) (pick level (still (Idle rxd)) (still (Receiving r)))
+    (pick (leb (r .bit) (wordBits f)) (still (Receiving (shiftedOf f r level)))
+    (record { sampler = Idle rxd; outcome = Complete (r .word) level }))
+
+-- sample n of a bit, not its last; at the third voting sample the majority decides
+unfoldable pub votedOf : Format → Reception → Sample → Bool → Sampled
+votedOf f r n rxd =
+    pick (eqb (n .0) (firstVote f + 2)) (decidedOf f (castOf f r n rxd) rxd (majorityOf (r .first) (r .second) rxd))
+    (still (Receiving (castOf f r n rxd)))
+
+-- a bit's samples are 1 to S
+unfoldable pub sampledOf : Format → Reception → Bool → Sampled
+sampledOf f r rxd =
+    pick (ltb (r .sample .0) (samples f - 1)) (votedOf f r (record { 0 = r .sample .0 + 1 }) rxd)
+    (still (Receiving (nextBitOf f r)))
+
+-- at each tick RxD is sampled
+unfoldable pub samplerOf : Format → Sampler → Bool → Sampled
+samplerOf f (Idle last) rxd = idleOf last rxd
+samplerOf f (Receiving r) rxd = sampledOf f r rxd

@@ -1,0 +1,42 @@
+-- The format as the registers' bits give it (document 01, 'Registers and their writes'; bit places and size codes by source 004).
+use Prim.Native.Nat.{ℕ, _+_, _*_}
+use mathlib.Core.Bool.{Bool}
+use lib.Dec.{eqb}
+use Rattle.choice.specs.Pick.{pick, digit}
+use Rattle.frame.specs.declared.format.Size.{Size}
+use Rattle.frame.specs.declared.format.Size.the-variants.{Five, Six, Seven, Eight, Nine}
+use Rattle.frame.specs.declared.format.Parity.{Parity}
+use Rattle.frame.specs.declared.format.Parity.the-variants.{Off, Even, Odd}
+use Rattle.frame.specs.declared.format.Format.{Format}
+use Rattle.usart.specs.declared.settings.Coded.{Coded}
+use Rattle.usart.specs.declared.settings.Coded.the-variants.{Known, Reserved}
+
+-- the size code UCSZ2:0 must be 000, 001, 010, 011 or 111 (5, 6, 7, 8, 9 bits)
+abbrev pub codeOf : Size → ℕ
+codeOf Five = 0
+codeOf Six = 1
+codeOf Seven = 2
+codeOf Eight = 3
+codeOf Nine = 7
+
+unfoldable pub sizeOf : ℕ → Coded
+sizeOf n =
+    pick (eqb n 0) (Known Five)
+    (pick (eqb n 1) (Known Six)
+    (pick (eqb n 2) (Known Seven)
+    (pick (eqb n 3) (Known Eight)
+    (pick (eqb n 7) (Known Nine)
+    Reserved))))
+
+-- UPM 00 is off, 10 even, 11 odd; 01 is refused
+abbrev pub upmOf : Parity → ℕ
+upmOf Off = 0
+upmOf Even = 2
+upmOf Odd = 3
+
+unfoldable pub parityOf : ℕ → Parity
+parityOf n = pick (eqb n 2) Even (pick (eqb n 3) Odd Off)
+
+-- UPM, USBS, the size bits and U2X as one number: two formats that differ give two numbers
+abbrev pub settingsOf : Format → ℕ
+settingsOf f = codeOf (f .size) + digit (f .usbs) * 8 + upmOf (f .parity) * 16 + digit (f .u2x) * 64

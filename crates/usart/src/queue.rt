@@ -1,0 +1,104 @@
+ghost use mathlib.Core.Path.{_≡_};
+ghost use Rattle.usart.specs.Queue.{markedOf, storedOf, takenOf, oldestOf, isEmpty};
+
+// A received frame.
+pub struct Frame {
+    pub data: u16,
+    pub fe: bool,
+    pub upe: bool,
+    pub dor: bool,
+}
+
+// Frames received and not yet read, oldest first.
+pub enum Places {
+    Empty,
+    One(Frame),
+    Two(Frame, Frame),
+}
+
+pub struct Queue {
+    pub places: Places,
+    // A frame was lost; the next one stored carries DOR.
+    pub lost: bool,
+}
+
+impl Frame {
+    fn marked(mut self, dor: bool) -> Frame
+        ensures { λ r. ⌜ r ≡ markedOf self dor ⌝ }
+    {
+        self.dor = dor;
+        self
+    }
+}
+
+impl Queue {
+    pub fn empty(self) -> bool
+        ensures { λ r. ⌜ r ≡ isEmpty (self .places) ⌝ }
+    {
+        let p = self.places;
+        match p {
+            Places::Empty => true,
+            Places::One(_) => false,
+            Places::Two(_, _) => false,
+        }
+    }
+
+    pub fn stored(self, f: Frame) -> Queue
+        ensures { λ r. ⌜ r ≡ storedOf self f ⌝ }
+    {
+        let p = self.places;
+        let g = f.marked(self.lost);
+        match p {
+            Places::Empty => Queue {
+                places: Places::One(g),
+                lost: false,
+            },
+            Places::One(a) => Queue {
+                places: Places::Two(a, g),
+                lost: false,
+            },
+            Places::Two(a, b) => Queue {
+                places: Places::Two(a, b),
+                lost: true,
+            },
+        }
+    }
+
+    // The oldest frame is taken away, if there is one.
+    pub fn taken(self) -> Queue
+        ensures { λ r. ⌜ r ≡ takenOf self ⌝ }
+    {
+        let p = self.places;
+        match p {
+            Places::Empty => Queue {
+                places: Places::Empty,
+                lost: self.lost,
+            },
+            Places::One(_) => Queue {
+                places: Places::Empty,
+                lost: self.lost,
+            },
+            Places::Two(_, b) => Queue {
+                places: Places::One(b),
+                lost: self.lost,
+            },
+        }
+    }
+
+    // The oldest frame; all 0 where there is none.
+    pub fn oldest(self) -> Frame
+        ensures { λ r. ⌜ r ≡ oldestOf (self .places) ⌝ }
+    {
+        let p = self.places;
+        match p {
+            Places::Empty => Frame {
+                data: 0,
+                fe: false,
+                upe: false,
+                dor: false,
+            },
+            Places::One(a) => a,
+            Places::Two(a, _) => a,
+        }
+    }
+}

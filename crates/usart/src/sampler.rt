@@ -1,0 +1,202 @@
+use crate::sample::Sample;
+use frame::Format;
+ghost use mathlib.Core.Path.{_≡_};
+ghost use Rattle.usart.specs.Sampler.{idleOf, castOf, nextBitOf, shiftedOf, decidedOf, votedOf, sampledOf, samplerOf, isReceiving};
+
+// A frame under way: the bit that is being sampled (0 is the start bit), samples of it taken, its first two votes, and the bits
+// received so far, shifted in at the top.
+pub struct Reception {
+    pub bit: u8,
+    pub sample: Sample,
+    pub first: bool,
+    pub second: bool,
+    pub word: u16,
+}
+
+pub enum Sampler {
+    // No frame under way; the last sample is remembered.
+    Idle(bool),
+    // From the first low sample to the stop decision.
+    Receiving(Reception),
+}
+
+// What a sample leads to.
+pub enum Outcome {
+    Nothing,
+    // A frame completes, with its word and the vote on its stop bit.
+    Complete(u16, bool),
+}
+
+pub struct Sampled {
+    pub sampler: Sampler,
+    pub outcome: Outcome,
+}
+
+fn idle(last: bool, rxd: bool) -> Sampled
+    ensures { λ r. ⌜ r ≡ idleOf last rxd ⌝ }
+{
+    if last {
+        if rxd {
+            return Sampled {
+                sampler: Sampler::Idle(rxd),
+                outcome: Outcome::Nothing,
+            };
+        }
+        let r = Reception {
+            bit: 0,
+            sample: Sample(1),
+            first: false,
+            second: false,
+            word: 0,
+        };
+        return Sampled {
+            sampler: Sampler::Receiving(r),
+            outcome: Outcome::Nothing,
+        };
+    }
+    Sampled {
+        sampler: Sampler::Idle(rxd),
+        outcome: Outcome::Nothing,
+    }
+}
+
+impl Reception {
+    // Sample n is taken; the first two voting ones are kept.
+    fn cast(self, f: Format, n: Sample, rxd: bool) -> Reception
+        ensures { λ r. ⌜ r ≡ castOf f self n rxd ⌝ }
+    {
+        let vote = f.first_vote();
+        if n.0 == vote {
+            return Reception {
+                bit: self.bit,
+                sample: n,
+                first: rxd,
+                second: self.second,
+                word: self.word,
+            };
+        }
+        if n.0 == vote + 1 {
+            return Reception {
+                bit: self.bit,
+                sample: n,
+                first: self.first,
+                second: rxd,
+                word: self.word,
+            };
+        }
+        Reception {
+            bit: self.bit,
+            sample: n,
+            first: self.first,
+            second: self.second,
+            word: self.word,
+        }
+    }
+
+    // The bit's last sample is taken. (The stop bit has none: its frame has completed by then.)
+    fn next_bit(self, f: Format) -> Reception
+        ensures { λ r. ⌜ r ≡ nextBitOf f self ⌝ }
+    {
+        if self.bit <= f.word_bits() {
+            return Reception {
+                bit: self.bit + 1,
+                sample: Sample(0),
+                first: false,
+                second: false,
+                word: self.word,
+            };
+        }
+        self
+    }
+
+    // A bit of the word comes in at the top.
+    fn shifted(mut self, f: Format, level: bool) -> Reception
+        ensures { λ r. ⌜ r ≡ shiftedOf f self level ⌝ }
+    {
+        let half = self.word / 2;
+        if level {
+            self.word = half + f.top();
+            return self;
+        }
+        self.word = half;
+        self
+    }
+
+    // The last vote is cast, by the sample rxd, and the majority is level.
+    fn decided(self, f: Format, rxd: bool, level: bool) -> Sampled
+        ensures { λ r. ⌜ r ≡ decidedOf f self rxd level ⌝ }
+    {
+        if self.bit == 0 {
+            if level {
+                return Sampled {
+                    sampler: Sampler::Idle(rxd),
+                    outcome: Outcome::Nothing,
+                };
+            }
+            return Sampled {
+                sampler: Sampler::Receiving(self),
+                outcome: Outcome::Nothing,
+            };
+        }
+        if self.bit <= f.word_bits() {
+            let r = self.shifted(f, level);
+            return Sampled {
+                sampler: Sampler::Receiving(r),
+                outcome: Outcome::Nothing,
+            };
+        }
+        Sampled {
+            sampler: Sampler::Idle(rxd),
+            outcome: Outcome::Complete(self.word, level),
+        }
+    }
+
+    // Sample n of the bit, which is not its last.
+    fn voted(self, f: Format, n: Sample, rxd: bool) -> Sampled
+        ensures { λ r. ⌜ r ≡ votedOf f self n rxd ⌝ }
+    {
+        let level = frame::majority(self.first, self.second, rxd);
+        let r = self.cast(f, n, rxd);
+        if n.0 == f.first_vote() + 2 {
+            return r.decided(f, rxd, level);
+        }
+        Sampled {
+            sampler: Sampler::Receiving(r),
+            outcome: Outcome::Nothing,
+        }
+    }
+
+    fn sampled(self, f: Format, rxd: bool) -> Sampled
+        ensures { λ r. ⌜ r ≡ sampledOf f self rxd ⌝ }
+    {
+        if self.sample.0 < f.samples() - 1 {
+            return self.voted(f, Sample(self.sample.0 + 1), rxd);
+        }
+        let r = self.next_bit(f);
+        Sampled {
+            sampler: Sampler::Receiving(r),
+            outcome: Outcome::Nothing,
+        }
+    }
+}
+
+impl Sampler {
+    // A tick: the level of RxD is sampled.
+    pub fn tick(self, f: Format, rxd: bool) -> Sampled
+        ensures { λ r. ⌜ r ≡ samplerOf f self rxd ⌝ }
+    {
+        match self {
+            Sampler::Idle(last) => idle(last, rxd),
+            Sampler::Receiving(r) => r.sampled(f, rxd),
+        }
+    }
+
+    pub fn receiving(self) -> bool
+        ensures { λ r. ⌜ r ≡ isReceiving self ⌝ }
+    {
+        match self {
+            Sampler::Idle(_) => false,
+            Sampler::Receiving(_) => true,
+        }
+    }
+}
