@@ -7,3 +7,8 @@ pub mod Unit
 pub mod Settings
 pub mod Read
 pub mod Write
+pub mod Valid
+pub mod Event
+pub mod Line
+pub mod Receiving
+pub mod Sending

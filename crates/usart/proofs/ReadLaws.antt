@@ -1,0 +1,94 @@
+-- What the registers' bits say of the oldest frame.
+use mathlib.Core.Path.{_≡_, refl, _∙_, sym, ap}
+use mathlib.Core.Bool.{Bool, true, false, not}
+use mathlib.Core.List.{List, [], _∷_, _++_, map}
+use Prim.Native.Nat.{ℕ, zero, suc, _+_, _*_, _/_, _%_, _^_, _≤_, _<_}
+use native.Mathlib.Nat.{mod-lt}
+use native.Mathlib.Omega.{arith}
+use lib.Dec.{eqb, lit≤}
+use Rattle.choice.specs.Pick.{pick, digit}
+use Rattle.usart.specs.Sender.{isVacant}
+use Rattle.usart.specs.Settings.{codeOf}
+use Rattle.usart.specs.Queue.{heldIn, isEmpty, oldestOf, takenFrom}
+use Rattle.usart.specs.Read.{ucsr0a, ucsr0b, oldest}
+use Rattle.usart.specs.Event.{read}
+use Rattle.usart.specs.Receiving.{bitAt, Seen, seenBy, seenIn, takenBy}
+use Rattle.usart.specs.declared.queue.Frame.{Frame}
+use Rattle.usart.specs.declared.queue.Places.{Places}
+use Rattle.usart.specs.declared.queue.Places.the-variants.{Empty, One, Two}
+use Rattle.usart.specs.declared.unit.Usart.{Usart}
+use Rattle.usart.specs.declared.write.Register.the-variants.{Udr0}
+
+pub digit-le : (b : Bool) → digit b ≤ 1
+digit-le true = lit≤ tt
+digit-le false = lit≤ tt
+
+-- flags in a byte, as in UCSR0A, each read back by its place
+pub record Flags (n : ℕ) (b7 b4 b3 b2 : Bool) : Type 0 where
+  pub bit7 : bitAt n 7 ≡ digit b7
+  pub bit4 : bitAt n 4 ≡ digit b4
+  pub bit3 : bitAt n 3 ≡ digit b3
+  pub bit2 : bitAt n 2 ≡ digit b2
+
+flags : (a b c d e g k : Bool)
+    → Flags (digit a * 128 + digit b * 64 + digit c * 32 + digit d * 16 + digit e * 8 + digit g * 4 + digit k * 2) a d e g
+flags a b c d e g k =
+    let a1 = digit-le a in
+    let b1 = digit-le b in
+    let c1 = digit-le c in
+    let d1 = digit-le d in
+    let e1 = digit-le e in
+    let g1 = digit-le g in
+    let k1 = digit-le k in
+    record { bit7 = omega arith; bit4 = omega arith; bit3 = omega arith; bit2 = omega arith }
+
+digit-odd : (n : ℕ) → digit (eqb (n % 2) 1) ≡ n % 2
+digit-odd n = by (n % 2) (mod-lt n (lit≤ tt))
+  where
+    by : (m : ℕ) → m < 2 → digit (eqb m 1) ≡ m
+    by zero h = refl
+    by (suc zero) h = refl
+    by (suc (suc m)) h = absurd (omega arith)
+
+module _ (u : Usart) where
+  abbrev rxc : Bool
+  rxc = not (isEmpty (u .receiver .queue .places))
+
+  abbrev udre : Bool
+  udre = isVacant (u .sender .buffer)
+
+  pub status : Flags (ucsr0a u) rxc (oldest u .fe) (oldest u .dor) (oldest u .upe)
+  status = flags rxc (u .sender .txc) udre (oldest u .fe) (oldest u .dor) (oldest u .upe) (u .format .u2x)
+
+  rxb8-bit : bitAt (ucsr0b u) 1 ≡ bitAt (oldest u .«data») 8
+  rxb8-bit =
+      omega (
+        arith,
+        digit-odd (oldest u .«data» / 256),
+        digit-le (u .control .rxcie),
+        digit-le (u .control .txcie),
+        digit-le (u .control .udrie),
+        digit-le (u .control .rxen),
+        digit-le (u .control .txen),
+        digit-le (u .control .txb8),
+      )
+
+  -- what the firmware sees before a read of UDR0, and reads, is what is in the oldest frame
+  pub seen-oldest : seenBy u ≡ seenIn (oldest u)
+  seen-oldest = rw (status .bit4, status .bit3, status .bit2, rxb8-bit)
+
+  -- a read takes the oldest frame and leaves the others
+  pub taken-held : takenBy u (read Udr0) ++ map seenIn (heldIn (takenFrom (u .receiver .queue .places))) ≡ map seenIn (heldIn (u .receiver .queue .places))
+  taken-held = by (u .receiver .queue .places) refl
+    where
+      by : (p : Places) → u .receiver .queue .places ≡ p
+          → pick (eqb (bitAt (ucsr0a u) 7) 1) (seenBy u ∷ []) [] ++ map seenIn (heldIn (takenFrom p)) ≡ map seenIn (heldIn p)
+      by Empty e = let b : bitAt (ucsr0a u) 7 ≡ 0 = status .bit7 ∙ ap (λ (q : Places). digit (not (isEmpty q))) e in rw b
+      by (One x) e =
+          let b : bitAt (ucsr0a u) 7 ≡ 1 = status .bit7 ∙ ap (λ (q : Places). digit (not (isEmpty q))) e in
+          let s : seenBy u ≡ seenIn x = seen-oldest ∙ ap (λ (q : Places). seenIn (oldestOf q)) e in
+          rw (b, s)
+      by (Two x y) e =
+          let b : bitAt (ucsr0a u) 7 ≡ 1 = status .bit7 ∙ ap (λ (q : Places). digit (not (isEmpty q))) e in
+          let s : seenBy u ≡ seenIn x = seen-oldest ∙ ap (λ (q : Places). seenIn (oldestOf q)) e in
+          rw (b, s)

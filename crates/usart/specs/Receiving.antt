@@ -1,0 +1,130 @@
+-- Demand 3 at the serial unit: what is asked of the unit, the list and the line, and what comes of them.
+use Prim.Native.Nat.{ℕ, suc, _+_, _-_, _*_, _/_, _%_, _^_, _≤_, _<_}
+use mathlib.Core.Bool.{Bool, true, false}
+use mathlib.Core.List.{List, [], _∷_, _++_, map}
+use mathlib.Core.Path.{_≡_}
+use lib.Dec.{eqb, ltb}
+use lib.ListN.{length}
+use Rattle.choice.specs.Pick.{pick, digit}
+use Rattle.frame.specs.Format.{samples, wordBits}
+use Rattle.frame.specs.Limit.{limit, Within}
+use Rattle.frame.specs.declared.format.Format.{Format}
+use Rattle.usart.specs.Baud.{ticks}
+use Rattle.usart.specs.Sampler.{samplerOf}
+use Rattle.usart.specs.Queue.{heldIn}
+use Rattle.usart.specs.Unit.{clockOf}
+use Rattle.usart.specs.Read.{readOf}
+use Rattle.usart.specs.Event.{Event, clock, write, read, vector, nextOf, finalOf, isUdr0, OnlyData, levelsOf}
+use Rattle.usart.specs.Line.{Sent, lineLevel, Fits, Spaced, EndedBy, Shows}
+use Rattle.usart.specs.declared.sampler.Sampler.the-variants.{Idle}
+use Rattle.usart.specs.declared.sampler.Outcome.{Outcome}
+use Rattle.usart.specs.declared.sampler.Outcome.the-variants.{Nothing, Complete}
+use Rattle.usart.specs.declared.queue.Frame.{Frame}
+use Rattle.usart.specs.declared.queue.Places.the-variants.{Empty}
+use Rattle.usart.specs.declared.unit.Usart.{Usart}
+use Rattle.usart.specs.declared.write.Register.{Register}
+use Rattle.usart.specs.declared.write.Register.the-variants.{Ucsr0a, Ucsr0b, Udr0}
+
+-- enabled, idle, the last sample high, nothing held, no loss pending; any baud counter not above UBRR
+pub record Ready (u : Usart) : Type 0 where
+  pub enabled : u .control .rxen ≡ true
+  pub idle : u .receiver .sampler ≡ Idle true
+  pub empty : u .receiver .queue .places ≡ Empty
+  pub noLoss : u .receiver .queue .lost ≡ false
+  pub counter : u .baud .left .0 ≤ u .baud .ubrr
+
+-- the frames held, oldest first
+abbrev pub heldBy : Usart → List Frame
+heldBy u = heldIn (u .receiver .queue .places)
+
+-- what the sampler makes of a clock
+abbrev pub outcomeAt : Usart → Bool → Outcome
+outcomeAt u rxd = pick (ticks (u .baud)) (pick (u .control .rxen) (samplerOf (u .format) (u .receiver .sampler) rxd .outcome) Nothing) Nothing
+
+abbrev pub isComplete : Outcome → Bool
+isComplete Nothing = false
+isComplete (Complete word stop) = true
+
+-- a place is free whenever a frame completes: fewer than two are held
+abbrev pub Free : Usart → List Event → Type 0
+Free u [] = Unit {0}
+Free u (clock rxd ∷ es) = (isComplete (outcomeAt u rxd) ≡ true → length (heldBy u) < 2) × Free (clockOf u rxd) es
+Free u (write r v ∷ es) = Free (nextOf u (write r v)) es
+Free u (read r ∷ es) = Free (nextOf u (read r)) es
+Free u (vector ∷ es) = Free (nextOf u vector) es
+
+-- the line fs, of bits P/Q clocks long within the recommended limit, is what the unit's list of events shows it
+pub record Hears (P Q : ℕ) (fs : List Sent) (u : Usart) (es : List Event) : Type 0 where
+  pub ready : Ready u
+  pub onlyData : OnlyData u es
+  pub p1 : 1 ≤ P
+  pub q1 : 1 ≤ Q
+  pub within : Within (limit (u .format .u2x) (wordBits (u .format))) (samples (u .format) * (u .baud .ubrr + 1) * Q) P
+  pub fits : Fits (u .format) fs
+  pub spaced : Spaced (wordBits (u .format)) P Q fs
+  pub shows : Shows (lineLevel (u .format) P Q fs) 0 (levelsOf es)
+  pub ended : EndedBy (wordBits (u .format)) P Q (length (levelsOf es)) fs
+  pub free : Free u es
+
+-- bit k of a register's value
+abbrev pub bitAt : ℕ → ℕ → ℕ
+bitAt n k = n / 2 ^ k % 2
+
+-- a frame as the firmware sees it: UDR0, and RXB8, FE, DOR and UPE
+pub record Seen : Type 0 where
+  pub value : ℕ
+  pub rxb8 : ℕ
+  pub fe : ℕ
+  pub dor : ℕ
+  pub upe : ℕ
+
+-- what a read of UDR0 answers, and what UCSR0B and UCSR0A read just before it
+abbrev pub seenBy : Usart → Seen
+seenBy u = record {
+  value = readOf u Udr0 .value;
+  rxb8 = bitAt (readOf u Ucsr0b .value) 1;
+  fe = bitAt (readOf u Ucsr0a .value) 4;
+  dor = bitAt (readOf u Ucsr0a .value) 3;
+  upe = bitAt (readOf u Ucsr0a .value) 2;
+}
+
+-- a UDR0 read with RXC set takes a frame
+abbrev pub takenBy : Usart → Event → List Seen
+takenBy u (clock rxd) = []
+takenBy u (write r v) = []
+takenBy u (read r) = pick (isUdr0 r) (pick (eqb (bitAt (readOf u Ucsr0a .value) 7) 1) (seenBy u ∷ []) []) []
+takenBy u vector = []
+
+-- the frames read, in order
+abbrev pub readsOf : Usart → List Event → List Seen
+readsOf u [] = []
+readsOf u (e ∷ es) = takenBy u e ++ readsOf (nextOf u e) es
+
+-- a frame still held has the same in it
+abbrev pub seenIn : Frame → Seen
+seenIn f = record { value = f .«data» % 256; rxb8 = bitAt (f .«data») 8; fe = digit (f .fe); dor = digit (f .dor); upe = digit (f .upe) }
+
+-- data bits 0 to 7, the ninth, 0 where there is none, and FE, DOR and UPE clear
+abbrev pub clean : Sent → Seen
+clean s = record { value = s .«data» % 256; rxb8 = bitAt (s .«data») 8; fe = 0; dor = 0; upe = 0 }
+
+-- the clocks at which frames enter the buffer, in order, the first clock of the list being j
+abbrev pub entriesOf : ℕ → Usart → List Event → List ℕ
+entriesOf j u [] = []
+entriesOf j u (clock rxd ∷ es) =
+    pick (ltb (length (heldBy u)) (length (heldBy (clockOf u rxd)))) (j ∷ []) [] ++ entriesOf (suc j) (clockOf u rxd) es
+entriesOf j u (write r v ∷ es) = entriesOf j (nextOf u (write r v)) es
+entriesOf j u (read r ∷ es) = entriesOf j (nextOf u (read r)) es
+entriesOf j u (vector ∷ es) = entriesOf j (nextOf u vector) es
+
+-- each frame enters at a clock n+t with t·Q < (D+2)·P
+abbrev pub InTime : ℕ → ℕ → ℕ → List ℕ → List Sent → Type 0
+InTime D P Q [] [] = Unit {0}
+InTime D P Q [] (s ∷ ss) = ⊥
+InTime D P Q (j ∷ js) [] = ⊥
+InTime D P Q (j ∷ js) (s ∷ ss) = ((s .start ≤ j) × ((j - s .start) * Q < (D + 2) * P)) × InTime D P Q js ss
+
+-- the frames read, in order, then those held at the end, oldest first, are the line's, each once, in time
+pub record Delivered (P Q : ℕ) (fs : List Sent) (u : Usart) (es : List Event) : Type 0 where
+  pub frames : readsOf u es ++ map seenIn (heldBy (finalOf u es)) ≡ map clean fs
+  pub inTime : InTime (wordBits (u .format)) P Q (entriesOf 0 u es) fs

@@ -1,0 +1,73 @@
+-- The ranges of the unit's fields. Frames held for reading outlive a change of format, so their range is not bound by the present one;
+-- what the sender holds and a frame under way in the receiver are.
+use Prim.Native.Nat.{ℕ, _+_, _^_, _<_, _≤_}
+use mathlib.Core.Bool.{Bool, false}
+use mathlib.Core.Path.{_≡_}
+use Rattle.frame.specs.Format.{samples, dataBits, wordBits, lastBit}
+use Rattle.frame.specs.declared.format.Format.{Format}
+use Rattle.usart.specs.Receiver.{stopped}
+use Rattle.usart.specs.declared.baud.Baud.{Baud}
+use Rattle.usart.specs.declared.sender.Buffer.{Buffer}
+use Rattle.usart.specs.declared.sender.Buffer.the-variants.{Vacant, Full}
+use Rattle.usart.specs.declared.sender.Transmission.{Transmission}
+use Rattle.usart.specs.declared.sender.Shifter.{Shifter}
+use Rattle.usart.specs.declared.sender.Shifter.the-variants.{Resting, Sending}
+use Rattle.usart.specs.declared.sender.Sender.{Sender}
+use Rattle.usart.specs.declared.sampler.Reception.{Reception}
+use Rattle.usart.specs.declared.sampler.Sampler.{Sampler}
+use Rattle.usart.specs.declared.sampler.Sampler.the-variants.{Idle, Receiving}
+use Rattle.usart.specs.declared.queue.Frame.{Frame}
+use Rattle.usart.specs.declared.queue.Places.{Places}
+use Rattle.usart.specs.declared.queue.Places.the-variants.{Empty, One, Two}
+use Rattle.usart.specs.declared.queue.Queue.{Queue}
+use Rattle.usart.specs.declared.receiver.Receiver.{Receiver}
+use Rattle.usart.specs.declared.unit.Usart.{Usart}
+
+-- UBRR0H does not load the counter, so one above UBRR is reached
+pub record ValidBaud (b : Baud) : Type 0 where
+  pub ubrr : b .ubrr < 4096
+  pub left : b .left .0 < 4096
+
+-- data bits only
+abbrev pub ValidBuffer : Format → Buffer → Type 0
+ValidBuffer f Vacant = Unit {0}
+ValidBuffer f (Full d) = d < 2 ^ dataBits (f .size)
+
+pub record ValidTransmission (f : Format) (t : Transmission) : Type 0 where
+  pub word : t .word < 2 ^ wordBits f
+  pub bit : t .bit ≤ lastBit f
+  pub sample : t .sample .0 < samples f
+
+abbrev pub ValidShifter : Format → Shifter → Type 0
+ValidShifter f Resting = Unit {0}
+ValidShifter f (Sending t) = ValidTransmission f t
+
+pub record ValidSender (f : Format) (s : Sender) : Type 0 where
+  pub buffer : ValidBuffer f (s .buffer)
+  pub shifter : ValidShifter f (s .shifter)
+
+-- bits 0 to D + 1, the first stop bit
+pub record ValidReception (f : Format) (r : Reception) : Type 0 where
+  pub word : r .word < 2 ^ wordBits f
+  pub bit : r .bit ≤ wordBits f + 1
+  pub sample : r .sample .0 < samples f
+
+abbrev pub ValidSampler : Format → Sampler → Type 0
+ValidSampler f (Idle last) = Unit {0}
+ValidSampler f (Receiving r) = ValidReception f r
+
+abbrev pub ValidPlaces : Places → Type 0
+ValidPlaces Empty = Unit {0}
+ValidPlaces (One a) = a .«data» < 512
+ValidPlaces (Two a b) = (a .«data» < 512) × (b .«data» < 512)
+
+pub record ValidReceiver (f : Format) (r : Receiver) : Type 0 where
+  pub sampler : ValidSampler f (r .sampler)
+  pub places : ValidPlaces (r .queue .places)
+
+-- what is not in use is 0: a disabled receiver is idle, remembers low and holds nothing
+pub record Valid (u : Usart) : Type 0 where
+  pub baud : ValidBaud (u .baud)
+  pub sender : ValidSender (u .format) (u .sender)
+  pub receiver : ValidReceiver (u .format) (u .receiver)
+  pub disabled : u .control .rxen ≡ false → u .receiver ≡ stopped
