@@ -6,3 +6,4 @@ pub mod ReadLaws
 pub mod EventLaws
 pub mod ClockLaws
 pub mod ReceivingLine
+pub mod SendingLine
