@@ -7,3 +7,5 @@ pub mod EventLaws
 pub mod ClockLaws
 pub mod ReceivingLine
 pub mod SendingLine
+pub mod ValidLaws
+pub mod Witness

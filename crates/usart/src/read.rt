@@ -6,6 +6,7 @@ use crate::unit::Usart;
 use crate::unit::digit;
 use crate::write::Register;
 ghost use mathlib.Core.Path.{_≡_};
+ghost use Rattle.usart.specs.Unit.{resetUsart};
 ghost use Rattle.usart.specs.Read.{ucsr0a, ucsr0b, ucsr0c, ubrr0l, ubrr0h, udr0, poppedOf, readOf};
 
 // What a read answers, and the unit after it.
@@ -15,6 +16,32 @@ pub struct Reading {
 }
 
 impl Usart {
+    // What the registers read after reset.
+    pub const UCSR0A_RESET: u8 = 0x20;
+
+    pub const UCSR0B_RESET: u8 = 0;
+
+    pub const UCSR0C_RESET: u8 = 0x06;
+
+    pub const UBRR0L_RESET: u8 = 0;
+
+    pub const UBRR0H_RESET: u8 = 0;
+
+    pub const UDR0_RESET: u8 = 0;
+
+    pub fn reset_value(register: Register) -> u8
+        ensures { λ r. ⌜ r ≡ readOf resetUsart register .value ⌝ }
+    {
+        match register {
+            Register::Ucsr0a => Usart::UCSR0A_RESET,
+            Register::Ucsr0b => Usart::UCSR0B_RESET,
+            Register::Ucsr0c => Usart::UCSR0C_RESET,
+            Register::Ubrr0l => Usart::UBRR0L_RESET,
+            Register::Ubrr0h => Usart::UBRR0H_RESET,
+            Register::Udr0 => Usart::UDR0_RESET,
+        }
+    }
+
     pub fn ucsr0a(self) -> u8
         ensures { λ r. ⌜ r ≡ ucsr0a self ⌝ }
     {

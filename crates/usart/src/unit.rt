@@ -38,19 +38,6 @@ pub fn digit(b: bool) -> u8
 }
 
 impl Usart {
-    // What the registers read after reset.
-    pub const UCSR0A_RESET: u8 = 0x20;
-
-    pub const UCSR0B_RESET: u8 = 0;
-
-    pub const UCSR0C_RESET: u8 = 0x06;
-
-    pub const UBRR0L_RESET: u8 = 0;
-
-    pub const UBRR0H_RESET: u8 = 0;
-
-    pub const UDR0_RESET: u8 = 0;
-
     pub fn reset() -> Usart
         ensures { λ r. ⌜ r ≡ resetUsart ⌝ }
     {

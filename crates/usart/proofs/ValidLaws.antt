@@ -1,0 +1,345 @@
+-- Every operation keeps the ranges, and reset has them.
+use mathlib.Core.Path.{_≡_, refl, _∙_, sym, ap, subst}
+use mathlib.Core.Bool.{Bool, true, false}
+use Prim.Native.Nat.{ℕ, zero, suc, _+_, _-_, _*_, _/_, _%_, _^_, _≤_, _<_}
+use native.Mathlib.Nat.{mod-lt}
+use native.Mathlib.Omega.{arith}
+use lib.Dec.{eqb, ltb, leb, lit≤, lit<}
+use lib.Pow.{pow-pos, pow-mono, pow-add}
+use borrow.Author.Tests.{ltb-true, leb-true, leb-false}
+use Rattle.choice.specs.Pick.{pick, digit}
+use Rattle.choice.proofs.Picks.{pick-ind}
+use Rattle.frame.specs.Format.{samples, firstVote, dataBits, wordBits, lastBit}
+use Rattle.frame.specs.Word.{dataOf, wordOf}
+use Rattle.frame.specs.declared.format.Size.{Size}
+use Rattle.frame.specs.declared.format.Format.{Format}
+use Rattle.frame.proofs.FormatLaws.{samples-half, first-vote-range, word-bits-range, data-bits-range}
+use Rattle.frame.proofs.WordLaws.{word-lt}
+use Rattle.usart.specs.Baud.{ticks, leftOf, baudOf, loadedOf}
+use Rattle.usart.specs.Sender.{isVacant, isResting, bufferOf, filledOf, acknowledgedOf, movedFrom, steppedOf, shiftedOn, senderOf}
+use Rattle.usart.specs.Sampler.{isReceiving, idleOf, castOf, nextBitOf, shiftedOf, decidedOf, votedOf, sampledOf, samplerOf}
+use Rattle.usart.specs.Queue.{storedIn, takenFrom}
+use Rattle.usart.specs.Receiver.{frameOf, putOf, receiverOf, listenedOf, stopped, enabledOf}
+use Rattle.usart.specs.Unit.{resetUsart, isBusy, clockOf, txcRequested}
+use Rattle.usart.specs.Settings.{codeOf, sizeOf, settingsOf}
+use Rattle.usart.specs.Read.{readOf}
+use Rattle.usart.specs.Write.{withSender, withFormat, withBaud, formattedOf, clearedOf, withU2x, writeA, controlled, withSize, codedB, writeB, isReservedC, formatIn, sizedC, codedC, writeC, timedOf, writeH, transmittedOf, writeOf, vectorOf}
+use Rattle.usart.specs.Event.{Event, clock, write, read, vector, settled, nextOf, finalOf}
+use Rattle.usart.specs.Valid.{ValidBaud, ValidBuffer, ValidTransmission, ValidShifter, ValidSender, ValidReception, ValidSampler, ValidPlaces, ValidReceiver, Valid}
+use Rattle.usart.specs.declared.baud.Clocks.{Clocks}
+use Rattle.usart.specs.declared.baud.Baud.{Baud}
+use Rattle.usart.specs.declared.sample.Sample.{Sample}
+use Rattle.usart.specs.declared.sender.Buffer.{Buffer}
+use Rattle.usart.specs.declared.sender.Buffer.the-variants.{Vacant, Full}
+use Rattle.usart.specs.declared.sender.Transmission.{Transmission}
+use Rattle.usart.specs.declared.sender.Shifter.{Shifter}
+use Rattle.usart.specs.declared.sender.Shifter.the-variants.{Resting, Sending}
+use Rattle.usart.specs.declared.sender.Sender.{Sender}
+use Rattle.usart.specs.declared.sampler.Reception.{Reception}
+use Rattle.usart.specs.declared.sampler.Sampler.{Sampler}
+use Rattle.usart.specs.declared.sampler.Sampler.the-variants.{Idle, Receiving}
+use Rattle.usart.specs.declared.sampler.Outcome.{Outcome}
+use Rattle.usart.specs.declared.sampler.Outcome.the-variants.{Nothing, Complete}
+use Rattle.usart.specs.declared.sampler.Sampled.{Sampled}
+use Rattle.usart.specs.declared.queue.Frame.{Frame}
+use Rattle.usart.specs.declared.queue.Places.{Places}
+use Rattle.usart.specs.declared.queue.Places.the-variants.{Empty, One, Two}
+use Rattle.usart.specs.declared.queue.Queue.{Queue}
+use Rattle.usart.specs.declared.receiver.Receiver.{Receiver}
+use Rattle.usart.specs.declared.settings.Coded.{Coded}
+use Rattle.usart.specs.declared.settings.Coded.the-variants.{Known, Reserved}
+use Rattle.usart.specs.declared.unit.Usart.{Usart}
+use Rattle.usart.specs.declared.write.Register.{Register}
+use Rattle.usart.specs.declared.write.Register.the-variants.{Ucsr0a, Ucsr0b, Ucsr0c, Ubrr0l, Ubrr0h, Udr0}
+use Rattle.usart.specs.declared.write.Written.{Written}
+use Rattle.usart.specs.declared.write.Written.the-variants.{Done, Refused}
+
+valid-baud : (b : Baud) → ValidBaud b → ValidBaud (baudOf b)
+unfolding leftOf
+valid-baud b v = record {
+  ubrr = v .ubrr;
+  left = pick-ind (λ (c : Clocks). c .0 < 4096) (eqb (b .left .0) 0) _ _ (λ e. v .ubrr) (λ e. omega (arith, v .left));
+}
+
+module _ (f : Format) where
+  s8 : 8 ≤ samples f
+  s8 = omega (arith, samples-half f, first-vote-range f)
+
+  valid-moved : (b : Buffer) (kept txc : Bool) → ValidSender f (movedFrom f b kept txc)
+  valid-moved Vacant kept txc = record { buffer = tt; shifter = tt }
+  valid-moved (Full d) kept txc = record { buffer = tt; shifter = record { word = word-lt f d; bit = omega arith; sample = omega (arith, s8) } }
+
+  valid-stepped : (s : Sender) (t : Transmission) → ValidBuffer f (s .buffer) → ValidTransmission f t → ValidSender f (steppedOf f s t)
+  unfolding steppedOf
+  valid-stepped s t vb vt =
+      pick-ind (ValidSender f) (ltb (t .sample .0) (samples f - 1)) _ _
+      (λ e. record { buffer = vb; shifter = record { word = vt .word; bit = vt .bit; sample = omega (arith, ltb-true (t .sample .0) (samples f - 1) e) } })
+      (λ e. pick-ind (ValidSender f) (ltb (t .bit) (lastBit f)) _ _
+      (λ g. record { buffer = vb; shifter = record { word = vt .word; bit = omega (arith, ltb-true (t .bit) (lastBit f) g); sample = omega (arith, s8) } })
+      (λ g. valid-moved (s .buffer) (s .txc) true))
+
+  valid-sender : (s : Sender) → ValidSender f s → ValidSender f (senderOf f s)
+  valid-sender s v = by (s .shifter) (v .shifter)
+    where
+      by : (x : Shifter) → ValidShifter f x → ValidSender f (shiftedOn f s x)
+      by Resting vs = valid-moved (s .buffer) (s .txc) (s .txc)
+      by (Sending t) vs = valid-stepped s t (v .buffer) vs
+
+  valid-idle : (last rxd : Bool) → ValidSampler f (idleOf last rxd .sampler)
+  unfolding idleOf
+  valid-idle true true = tt
+  valid-idle true false = record { word = pow-pos (wordBits f); bit = omega arith; sample = omega (arith, s8) }
+  valid-idle false rxd = tt
+
+  valid-cast : (r : Reception) (n : Sample) (rxd : Bool) → ValidReception f r → n .0 < samples f → ValidReception f (castOf f r n rxd)
+  unfolding castOf
+  valid-cast r n rxd v h =
+      let w : (q : Reception) → q .word ≡ r .word → q .bit ≡ r .bit → q .sample .0 ≡ n .0 → ValidReception f q =
+      λ q ew eb es. record { word = rw ew (v .word); bit = rw eb (v .bit); sample = rw es h } in
+      pick-ind (ValidReception f) (eqb (n .0) (firstVote f)) _ _ (λ e. w _ refl refl refl)
+      (λ e. pick-ind (ValidReception f) (eqb (n .0) (firstVote f + 1)) _ _ (λ g. w _ refl refl refl) (λ g. w _ refl refl refl))
+
+  valid-next : (r : Reception) → ValidReception f r → ValidReception f (nextBitOf f r)
+  unfolding nextBitOf
+  valid-next r v =
+      pick-ind (ValidReception f) (leb (r .bit) (wordBits f)) _ _
+      (λ e. record { word = v .word; bit = omega (arith, leb-true (r .bit) (wordBits f) e); sample = omega (arith, s8) })
+      (λ e. v)
+
+  valid-shifted : (r : Reception) (m : Bool) → ValidReception f r → ValidReception f (shiftedOf f r m)
+  unfolding shiftedOf
+  valid-shifted r m v =
+      let D : ℕ = wordBits f in
+      let p : 2 ^ D ≡ 2 * 2 ^ (D - 1) = ap (λ (n : ℕ). 2 ^ n) (omega (arith, word-bits-range f)) ∙ pow-add 2 1 (D - 1) in
+      pick-ind (ValidReception f) m _ _
+      (λ e. record { word = rw p (omega (arith, v .word)); bit = v .bit; sample = v .sample })
+      (λ e. record { word = omega (arith, v .word); bit = v .bit; sample = v .sample })
+
+  valid-decided : (r : Reception) (rxd m : Bool) → ValidReception f r → ValidSampler f (decidedOf f r rxd m .sampler)
+  unfolding decidedOf
+  valid-decided r rxd m v =
+      let F : Sampled → Type 0 = λ o. ValidSampler f (o .sampler) in
+      pick-ind F (eqb (r .bit) 0) _ _ (λ e. pick-ind F m _ _ (λ g. tt) (λ g. v))
+      (λ e. pick-ind F (leb (r .bit) (wordBits f)) _ _ (λ g. valid-shifted r m v) (λ g. tt))
+
+  valid-sampled : (r : Reception) (rxd : Bool) → ValidReception f r → ValidSampler f (sampledOf f r rxd .sampler)
+  unfolding sampledOf votedOf
+  valid-sampled r rxd v =
+      let F : Sampled → Type 0 = λ o. ValidSampler f (o .sampler) in
+      let n : Sample = record { 0 = r .sample .0 + 1 } in
+      pick-ind F (ltb (r .sample .0) (samples f - 1)) _ _
+      (λ e.
+      let c = valid-cast r n rxd v (omega (arith, ltb-true (r .sample .0) (samples f - 1) e)) in
+      pick-ind F (eqb (r .sample .0 + 1) (firstVote f + 2)) _ _ (λ g. valid-decided (castOf f r n rxd) rxd _ c) (λ g. c))
+      (λ e. valid-next r v)
+
+  valid-sampler : (p : Sampler) (rxd : Bool) → ValidSampler f p → ValidSampler f (samplerOf f p rxd .sampler)
+  unfolding samplerOf
+  valid-sampler (Idle last) rxd v = valid-idle last rxd
+  valid-sampler (Receiving r) rxd v = valid-sampled r rxd v
+
+  data-lt : (x : ℕ) → dataOf f x < 512
+  data-lt x =
+      let m : 2 ^ dataBits (f .size) ≤ 2 ^ 9 = pow-mono (data-bits-range (f .size) .1) in
+      omega (arith, mod-lt x (pow-pos (dataBits (f .size))))
+
+  valid-stored : (p : Places) (lost : Bool) (x : Frame) → ValidPlaces p → x .«data» < 512 → ValidPlaces (storedIn p lost x .places)
+  valid-stored Empty lost x v h = h
+  valid-stored (One a) lost x v h = (v, h)
+  valid-stored (Two a b) lost x v h = v
+
+  valid-put : (q : Queue) (o : Outcome) → ValidPlaces (q .places) → ValidPlaces (putOf f q o .places)
+  valid-put q Nothing v = v
+  valid-put q (Complete word stop) v = valid-stored (q .places) (q .lost) (frameOf f word stop) v (data-lt word)
+
+  valid-listened : (rxen : Bool) (r : Receiver) (rxd : Bool) → ValidReceiver f r → ValidReceiver f (listenedOf rxen f r rxd)
+  unfolding listenedOf
+  valid-listened rxen r rxd v =
+      pick-ind (ValidReceiver f) rxen _ _
+      (λ e. record { sampler = valid-sampler (r .sampler) rxd (v .sampler); places = valid-put (r .queue) (samplerOf f (r .sampler) rxd .outcome) (v .places) })
+      (λ e. v)
+
+pub valid-clock : (u : Usart) (rxd : Bool) → Valid u → Valid (clockOf u rxd)
+unfolding clockOf listenedOf
+valid-clock u rxd v =
+    pick-ind Valid (ticks (u .baud)) _ _
+    (λ e. record {
+      baud = valid-baud (u .baud) (v .baud);
+      sender = valid-sender (u .format) (u .sender) (v .sender);
+      receiver = valid-listened (u .format) (u .control .rxen) (u .receiver) rxd (v .receiver);
+      disabled = λ d. rw d (v .disabled d);
+    })
+    (λ e. record { baud = valid-baud (u .baud) (v .baud); sender = v .sender; receiver = v .receiver; disabled = v .disabled })
+
+valid-taken : (p : Places) → ValidPlaces p → ValidPlaces (takenFrom p)
+valid-taken Empty v = tt
+valid-taken (One a) v = tt
+valid-taken (Two a b) v = v .1
+
+pub valid-read : (u : Usart) (r : Register) → Valid u → Valid (readOf u r .usart)
+valid-read u Ucsr0a v = v
+valid-read u Ucsr0b v = v
+valid-read u Ucsr0c v = v
+valid-read u Ubrr0l v = v
+valid-read u Ubrr0h v = v
+valid-read u Udr0 v = record {
+  baud = v .baud;
+  sender = v .sender;
+  receiver = record { sampler = v .receiver .sampler; places = valid-taken (u .receiver .queue .places) (v .receiver .places) };
+  disabled = λ d. rw (v .disabled d);
+}
+
+pub valid-reset : Valid resetUsart
+valid-reset = record {
+  baud = record { ubrr = lit< tt; left = lit< tt };
+  sender = record { buffer = tt; shifter = tt };
+  receiver = record { sampler = tt; places = tt };
+  disabled = λ _. refl;
+}
+
+-- the unit with no frame in shift, buffer or reception: any format will do
+record Clear (u : Usart) : Type 0 where
+  vacant : isVacant (u .sender .buffer) ≡ true
+  resting : isResting (u .sender .shifter) ≡ true
+  idle : isReceiving (u .receiver .sampler) ≡ false
+
+not-busy : (u : Usart) → isBusy u ≡ false → Clear u
+unfolding isBusy
+not-busy u e = by (isVacant (u .sender .buffer)) (isResting (u .sender .shifter)) refl refl e
+  where
+    by : (a b : Bool) → isVacant (u .sender .buffer) ≡ a → isResting (u .sender .shifter) ≡ b
+        → pick a (pick b (isReceiving (u .receiver .sampler)) true) true ≡ false → Clear u
+    by true true ea eb h = record { vacant = ea; resting = eb; idle = h }
+    by true false ea eb h = absurd (let z : _≡_ {A = ℕ} 0 1 = cc in omega arith)
+    by false b ea eb h = absurd (let z : _≡_ {A = ℕ} 0 1 = cc in omega arith)
+
+any-buffer : (f : Format) (b : Buffer) → isVacant b ≡ true → ValidBuffer f b
+any-buffer f Vacant e = tt
+any-buffer f (Full d) e = absurd (let z : _≡_ {A = ℕ} 0 1 = cc in omega arith)
+
+any-shifter : (f : Format) (s : Shifter) → isResting s ≡ true → ValidShifter f s
+any-shifter f Resting e = tt
+any-shifter f (Sending t) e = absurd (let z : _≡_ {A = ℕ} 0 1 = cc in omega arith)
+
+any-sampler : (f : Format) (p : Sampler) → isReceiving p ≡ false → ValidSampler f p
+any-sampler f (Idle last) e = tt
+any-sampler f (Receiving r) e = absurd (let z : _≡_ {A = ℕ} 0 1 = cc in omega arith)
+
+-- a format is taken only by a clear unit
+valid-formatted : (u v : Usart) (busy : Bool) (g : Format) → Valid u → Valid v → (busy ≡ false → Clear v) → Valid (settled u (formattedOf v busy g))
+unfolding formattedOf
+valid-formatted u v busy g vu vv c =
+    pick-ind (λ (w : Written). Valid (settled u w)) busy _ _
+    (λ e. pick-ind (λ (w : Written). Valid (settled u w)) (eqb (settingsOf g) (settingsOf (v .format))) _ _ (λ _. vv) (λ _. vu))
+    (λ e. record {
+      baud = vv .baud;
+      sender = record { buffer = any-buffer g (v .sender .buffer) (c e .vacant); shifter = any-shifter g (v .sender .shifter) (c e .resting) };
+      receiver = record { sampler = any-sampler g (v .receiver .sampler) (c e .idle); places = vv .receiver .places };
+      disabled = vv .disabled;
+    })
+
+valid-acknowledged : (u : Usart) → Valid u → Valid (withSender u (acknowledgedOf (u .sender)))
+valid-acknowledged u v = record {
+  baud = v .baud;
+  sender = record { buffer = v .sender .buffer; shifter = v .sender .shifter };
+  receiver = v .receiver;
+  disabled = v .disabled;
+}
+
+valid-a : (u : Usart) (x : ℕ) → Valid u → Valid (settled u (writeA u x))
+unfolding writeA clearedOf
+valid-a u x v =
+    pick-ind (λ (w : Written). Valid (settled u w)) (eqb (x % 2) 1) _ _ (λ _. v)
+    (λ _. valid-formatted u (clearedOf u x) (isBusy u) (withU2x (u .format) (eqb (x / 2 % 2) 1)) v
+    (pick-ind Valid (eqb (x / 64 % 2) 1) _ _ (λ _. valid-acknowledged u v) (λ _. v))
+    (λ e. pick-ind Clear (eqb (x / 64 % 2) 1) _ _
+    (λ _. record { vacant = not-busy u e .vacant; resting = not-busy u e .resting; idle = not-busy u e .idle }) (λ _. not-busy u e)))
+
+valid-enabled : (f : Format) (before after : Bool) (r : Receiver) → ValidReceiver f r → ValidReceiver f (enabledOf before after r)
+unfolding enabledOf
+valid-enabled f before after r v =
+    let z : ValidReceiver f stopped = record { sampler = tt; places = tt } in
+    pick-ind (ValidReceiver f) before _ _ (λ _. pick-ind (ValidReceiver f) after _ _ (λ _. v) (λ _. z)) (λ _. z)
+
+disabled-stopped : (before after : Bool) (r : Receiver) → after ≡ false → enabledOf before after r ≡ stopped
+unfolding enabledOf
+disabled-stopped true after r e = rw e
+disabled-stopped false after r e = refl
+
+idle-enabled : (before after : Bool) (r : Receiver) → isReceiving (r .sampler) ≡ false → isReceiving (enabledOf before after r .sampler) ≡ false
+unfolding enabledOf
+idle-enabled before after r e =
+    let F : Receiver → Type 0 = λ q. isReceiving (q .sampler) ≡ false in
+    pick-ind F before _ _ (λ _. pick-ind F after _ _ (λ _. e) (λ _. refl)) (λ _. refl)
+
+valid-b : (u : Usart) (x : ℕ) → Valid u → Valid (settled u (writeB u x))
+valid-b u x v = by (sizeOf (x / 4 % 2 * 4 + codeOf (u .format .size) % 4))
+  where
+    by : (k : Coded) → Valid (settled u (codedB u x k))
+    by Reserved = v
+    by (Known z) =
+        valid-formatted u (controlled u x) (isBusy u) (withSize (u .format) z) v
+        (record {
+          baud = v .baud;
+          sender = v .sender;
+          receiver = valid-enabled (u .format) (u .control .rxen) (eqb (x / 16 % 2) 1) (u .receiver) (v .receiver);
+          disabled = disabled-stopped (u .control .rxen) (eqb (x / 16 % 2) 1) (u .receiver);
+        })
+        (λ e. record {
+          vacant = not-busy u e .vacant;
+          resting = not-busy u e .resting;
+          idle = idle-enabled (u .control .rxen) (eqb (x / 16 % 2) 1) (u .receiver) (not-busy u e .idle);
+        })
+
+valid-c : (u : Usart) (x : ℕ) → Valid u → Valid (settled u (writeC u x))
+unfolding writeC sizedC
+valid-c u x v = pick-ind (λ (w : Written). Valid (settled u w)) (isReservedC x) _ _ (λ _. v) (λ _. by (sizeOf (codeOf (u .format .size) / 4 * 4 + x / 2 % 4)))
+  where
+    by : (k : Coded) → Valid (settled u (codedC u x k))
+    by Reserved = v
+    by (Known z) =
+        pick-ind (λ (w : Written). Valid (settled u w)) (eqb (x / 64) 0) _ _
+        (λ _. valid-formatted u u (isBusy u) (formatIn u z x) v v (not-busy u)) (λ _. v)
+
+valid-timed : (u : Usart) (b : Baud) → Valid u → ValidBaud b → Valid (settled u (timedOf u b))
+unfolding timedOf
+valid-timed u b v vb =
+    pick-ind (λ (w : Written). Valid (settled u w)) (isBusy u) _ _ (λ _. v)
+    (λ _. record { baud = vb; sender = v .sender; receiver = v .receiver; disabled = v .disabled })
+
+valid-h : (u : Usart) (x : ℕ) → Valid u → Valid (settled u (writeH u x))
+unfolding writeH
+valid-h u x v =
+    pick-ind (λ (w : Written). Valid (settled u w)) (leb 16 x) _ _ (λ _. v)
+    (λ e. valid-timed u _ v (record { ubrr = omega (arith, leb-false 16 x e); left = v .baud .left }))
+
+valid-d : (u : Usart) (x : ℕ) → Valid u → Valid (transmittedOf u x)
+unfolding transmittedOf
+valid-d u x v =
+    pick-ind Valid (u .control .txen) _ _
+    (λ _. record {
+      baud = v .baud;
+      sender = record { buffer = by (u .sender .buffer) (v .sender .buffer); shifter = v .sender .shifter };
+      receiver = v .receiver;
+      disabled = v .disabled;
+    })
+    (λ _. v)
+  where
+    by : (b : Buffer) → ValidBuffer (u .format) b → ValidBuffer (u .format) (bufferOf b (dataOf (u .format) (digit (u .control .txb8) * 256 + x)))
+    by Vacant vb = mod-lt _ (pow-pos (dataBits (u .format .size)))
+    by (Full e) vb = vb
+
+-- a written value is a byte
+pub valid-write : (u : Usart) (r : Register) (x : ℕ) → x < 256 → Valid u → Valid (settled u (writeOf u r x))
+valid-write u Ucsr0a x h v = valid-a u x v
+valid-write u Ucsr0b x h v = valid-b u x v
+valid-write u Ucsr0c x h v = valid-c u x v
+valid-write u Ubrr0l x h v =
+    let b : u .baud .ubrr / 256 * 256 + x < 4096 = omega (arith, v .baud .ubrr) in
+    valid-timed u (loadedOf (u .baud .ubrr / 256 * 256 + x)) v (record { ubrr = b; left = b })
+valid-write u Ubrr0h x h v = valid-h u x v
+valid-write u Udr0 x h v = valid-d u x v
+
+pub valid-vector : (u : Usart) → Valid u → Valid (settled u (vectorOf u))
+unfolding vectorOf
+valid-vector u v = pick-ind (λ (w : Written). Valid (settled u w)) (txcRequested u) _ _ (λ _. valid-acknowledged u v) (λ _. v)
