@@ -1,5 +1,5 @@
 -- Laws of the parity bit.
-use Prim.Native.Nat.{ℕ, zero, suc, _+_, _-_, _*_, _/_, _%_, _^_, _≤_, _<_}
+use Prim.Native.Nat.{ℕ, zero, suc, _+_, _-_, _/_, _%_, _^_, _≤_}
 use mathlib.Core.Path.{_≡_, refl, sym, ap, ap₂, subst, _∙_}
 use native.Mathlib.Nat.{mod-one, suc-add}
 use native.Mathlib.Numerals.{add-one}
@@ -8,7 +8,6 @@ use lib.Dec.{lit≤}
 use lib.Pow.{mod-mod-pow, field}
 use Rattle.frame.specs.Format.{dataBits}
 use Rattle.frame.specs.Parity.{sumOfBits, parityIn, parityBit}
-use Rattle.frame.specs.declared.format.Size.{Size}
 use Rattle.frame.specs.declared.format.Parity.{Parity}
 use Rattle.frame.specs.declared.format.Parity.the-variants.{Off, Even, Odd}
 use Rattle.frame.specs.declared.format.Format.{Format}

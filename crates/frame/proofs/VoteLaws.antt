@@ -1,9 +1,7 @@
 -- The majority of three.
 use mathlib.Core.Bool.{Bool, true, false}
 use mathlib.Core.Path.{_≡_, refl}
-use Prim.Native.Nat.{ℕ, _+_, _≤_}
-use native.Mathlib.Omega.{arith}
-use Rattle.choice.specs.Pick.{pick, digit}
+use Rattle.choice.specs.Pick.{pick}
 use Rattle.frame.specs.Vote.{majorityOf}
 
 -- by two tests

@@ -1,18 +1,16 @@
 -- Laws of the word on the line: what was put into it comes out again, and its parity bit is right.
 use Prim.Native.Nat.{ℕ, zero, suc, _+_, _-_, _*_, _/_, _%_, _^_, _≤_, _<_}
 use mathlib.Core.Bool.{Bool, true, false, not}
-use mathlib.Core.Path.{_≡_, refl, sym, ap, ap₂, subst, _∙_}
+use mathlib.Core.Path.{_≡_, refl, sym, ap, _∙_}
 use native.Mathlib.Nat.{mod-lt, add-zero, mul-le-mul-right}
 use native.Mathlib.Omega.{arith}
-use lib.Dec.{eqb, leb}
+use lib.Dec.{eqb}
 use lib.Pow.{pow-pos, pow-add, high, low}
 use borrow.Author.Tests.{le-leb, lt-leb, eq-eqb, ne-eqb}
-use Rattle.choice.specs.Pick.{pick}
 use Rattle.choice.proofs.Picks.{pick-ind}
 use Rattle.frame.specs.Format.{dataBits, parityBits, wordBits}
 use Rattle.frame.specs.Parity.{parityIn, parityBit}
 use Rattle.frame.specs.Word.{dataOf, wordOf, frameBit, parityError}
-use Rattle.frame.specs.declared.format.Size.{Size}
 use Rattle.frame.specs.declared.format.Parity.{Parity}
 use Rattle.frame.specs.declared.format.Parity.the-variants.{Off, Even, Odd}
 use Rattle.frame.specs.declared.format.Format.{Format}

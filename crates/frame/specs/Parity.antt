@@ -1,7 +1,6 @@
 -- Parity (document 01, 'Baud clock, sender': 'even: exclusive or of the data bits; odd: the opposite').
-use Prim.Native.Nat.{ℕ, zero, suc, _+_, _-_, _/_, _%_, _^_}
+use Prim.Native.Nat.{ℕ, zero, suc, _+_, _-_, _/_, _%_}
 use Rattle.frame.specs.Format.{dataBits}
-use Rattle.frame.specs.declared.format.Size.{Size}
 use Rattle.frame.specs.declared.format.Parity.{Parity}
 use Rattle.frame.specs.declared.format.Parity.the-variants.{Off, Even, Odd}
 use Rattle.frame.specs.declared.format.Format.{Format}

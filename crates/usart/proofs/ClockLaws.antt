@@ -1,27 +1,22 @@
 -- One clock of the unit, by the baud counter: the receiver's part.
-use mathlib.Core.Path.{_≡_, refl, _∙_, sym, ap}
+use mathlib.Core.Path.{_≡_, refl}
 use mathlib.Core.Bool.{Bool, true, false}
-use mathlib.Core.List.{List, [], _∷_, _++_}
-use Prim.Native.Nat.{ℕ, zero, suc, _+_, _-_, _≤_, _<_}
+use mathlib.Core.List.{[], _∷_, _++_}
+use Prim.Native.Nat.{ℕ, suc, _-_, _<_}
 use native.Mathlib.Omega.{arith}
-use lib.Dec.{eqb}
 use lib.ListN.{length}
 use borrow.Author.Tests.{eq-eqb, ne-eqb}
-use Rattle.choice.specs.Pick.{pick}
 use Rattle.frame.specs.declared.format.Format.{Format}
 use Rattle.usart.specs.Baud.{leftOf}
 use Rattle.usart.specs.Sender.{senderOf}
 use Rattle.usart.specs.Sampler.{samplerOf}
 use Rattle.usart.specs.Queue.{heldIn, markedOf, storedIn}
-use Rattle.usart.specs.Receiver.{putOf, receiverOf, listenedOf}
+use Rattle.usart.specs.Receiver.{receiverOf, listenedOf}
 use Rattle.usart.specs.Unit.{clockOf}
 use Rattle.usart.specs.Receiving.{outcomeAt}
-use Rattle.usart.specs.declared.sampler.Sampler.{Sampler}
-use Rattle.usart.specs.declared.sampler.Outcome.{Outcome}
 use Rattle.usart.specs.declared.queue.Frame.{Frame}
 use Rattle.usart.specs.declared.queue.Places.{Places}
 use Rattle.usart.specs.declared.queue.Places.the-variants.{Empty, One, Two}
-use Rattle.usart.specs.declared.queue.Queue.{Queue}
 use Rattle.usart.specs.declared.receiver.Receiver.{Receiver}
 use Rattle.usart.specs.declared.unit.Usart.{Usart}
 

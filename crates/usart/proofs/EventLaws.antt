@@ -1,14 +1,13 @@
 -- What an event other than a clock may change: with no write done but of UDR0, the sender alone, or the queue by a read of UDR0.
-use mathlib.Core.Path.{_≡_, refl, _∙_, sym, ap}
-use mathlib.Core.Bool.{Bool, true, false}
+use mathlib.Core.Path.{_≡_, refl}
+use mathlib.Core.Bool.{true, false}
 use Prim.Native.Nat.{ℕ}
 use native.Mathlib.Omega.{arith}
-use Rattle.choice.specs.Pick.{pick}
 use Rattle.choice.proofs.Picks.{pick-ind}
-use Rattle.usart.specs.Sender.{filledOf, acknowledgedOf}
+use Rattle.usart.specs.Sender.{acknowledgedOf}
 use Rattle.usart.specs.Unit.{txcRequested}
 use Rattle.usart.specs.Write.{withSender, transmittedOf, writeOf, vectorOf}
-use Rattle.usart.specs.Event.{settled, nextOf, Event, write, read, vector, isRefused, isUdr0}
+use Rattle.usart.specs.Event.{settled, nextOf, write, isRefused, isUdr0}
 use Rattle.usart.specs.declared.sender.Sender.{Sender}
 use Rattle.usart.specs.declared.unit.Usart.{Usart}
 use Rattle.usart.specs.declared.write.Register.{Register}

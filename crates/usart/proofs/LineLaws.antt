@@ -1,20 +1,17 @@
 -- Laws of the line: the level at the clocks that matter.
 use mathlib.Core.Path.{_≡_, refl, _∙_, sym, ap}
-use mathlib.Core.Bool.{Bool, true, false}
+use mathlib.Core.Bool.{true}
 use mathlib.Core.List.{List, [], _∷_}
-use Prim.Native.Nat.{ℕ, zero, suc, _+_, _-_, _*_, _/_, _^_, _≤_, _<_}
-use native.Mathlib.Nat.{mul-le-mul-right, div-eq-of-lt, le-div-iff-mul-le, lt-of-mul-lt-mul-right}
+use Prim.Native.Nat.{ℕ, _+_, _-_, _*_, _/_, _≤_, _<_}
+use native.Mathlib.Nat.{le-div-iff-mul-le, lt-of-mul-lt-mul-right}
 use native.Mathlib.Decide.{decLt}
 use native.Mathlib.Omega.{arith}
-use lib.Dec.{leb, ltb}
-use borrow.Author.Tests.{lt-ltb, le-ltb, le-leb, lt-leb, ltb-false}
-use Rattle.choice.specs.Pick.{pick}
-use Rattle.choice.proofs.Picks.{pick-ind}
+use borrow.Author.Tests.{lt-ltb, le-ltb, le-leb, lt-leb}
 use Rattle.frame.specs.Format.{wordBits}
 use Rattle.frame.specs.Word.{wordOf, frameBit}
 use Rattle.frame.specs.declared.format.Format.{Format}
-use Rattle.frame.proofs.WordLaws.{start-bit, stop-bit}
-use Rattle.usart.specs.Line.{Sent, covers, lineLevel, Follows, Spaced, EndedBy, Shows}
+use Rattle.frame.proofs.WordLaws.{stop-bit}
+use Rattle.usart.specs.Line.{Sent, lineLevel, Follows, Spaced}
 
 -- frames that start at lo or later, lo being in clocks times Q, and each when the one before has ended
 abbrev pub From : ℕ → ℕ → ℕ → ℕ → List Sent → Type 0

@@ -1,15 +1,15 @@
 -- One tick of the sampler keeps the invariant of demand 3: it is idle between frames, or in step with the frame on the line.
-use mathlib.Core.Path.{_≡_, refl, _∙_, sym, ap, ap₂, subst}
+use mathlib.Core.Path.{_≡_, refl, _∙_, sym, ap}
 use mathlib.Core.Bool.{Bool, true, false}
 use mathlib.Core.List.{List, [], _∷_}
 use Prim.Native.Nat.{ℕ, zero, suc, _+_, _-_, _*_, _/_, _%_, _^_, _≤_, _<_}
-use native.Mathlib.Nat.{mul-le-mul-right, lt-of-mul-lt-mul-right, mod-one, mod-lt, mod-eq-of-lt, div-eq-of-lt, mul-assoc, mul-comm}
+use native.Mathlib.Nat.{mul-le-mul-right, lt-of-mul-lt-mul-right, mod-one, mod-lt, mod-eq-of-lt, div-eq-of-lt}
 use native.Mathlib.Numerals.{one-add}
 use native.Mathlib.Decide.{decLt}
 use native.Mathlib.Omega.{arith}
 use lib.Dec.{leb, ltb, eqb, lit≤}
 use lib.Pow.{mod-pow-add, pow-add}
-use borrow.Author.Tests.{lt-ltb, le-ltb, le-leb, lt-leb, ltb-true, ltb-false, leb-true, leb-false, eqb-true, eqb-false, eq-eqb, ne-eqb}
+use borrow.Author.Tests.{le-leb, ltb-true, ltb-false, leb-true, leb-false, eqb-true, eqb-false, ne-eqb}
 use Rattle.choice.specs.Pick.{pick, digit}
 use Rattle.choice.proofs.Picks.{pick-ind, pick-split}
 use Rattle.frame.specs.Format.{samples, firstVote, wordBits}
@@ -18,9 +18,8 @@ use Rattle.frame.specs.Word.{wordOf, frameBit}
 use Rattle.frame.specs.declared.format.Format.{Format}
 use Rattle.frame.proofs.FormatLaws.{samples-half}
 use Rattle.frame.proofs.WordLaws.{start-bit, word-bit, stop-bit, word-lt}
-use Rattle.usart.specs.Sampler.{still, idleOf, castAt, castOf, nextBitOf, withWord, shiftedOf, decidedOf, votedOf, sampledOf, samplerOf}
+use Rattle.usart.specs.Sampler.{idleOf, castOf, nextBitOf, withWord, shiftedOf, decidedOf, votedOf, sampledOf, samplerOf}
 use Rattle.usart.specs.Line.{Sent, lineLevel}
-use Rattle.usart.specs.declared.sample.Sample.{Sample}
 use Rattle.usart.specs.declared.sampler.Reception.{Reception}
 use Rattle.usart.specs.declared.sampler.Sampler.{Sampler}
 use Rattle.usart.specs.declared.sampler.Sampler.the-variants.{Idle, Receiving}
@@ -29,7 +28,7 @@ use Rattle.usart.specs.declared.sampler.Outcome.the-variants.{Nothing, C
 use Rattle.usart.specs.declared.sampler.Sampled.{Sampled}
 use Rattle.usart.proofs.Rates.{Rates, tick-short, vote-low, vote-high, vote-bit}
 use Rattle.usart.proofs.LineLaws.{From, before, within, quiet}
-use Rattle.usart.proofs.Noise.{turn, hits, Allowed, hit-one, hit-vote, hit-late, hit-stop, hit-idle, differs, differs-turn, majority-right}
+use Rattle.usart.proofs.Noise.{turn, hits, Allowed, hit-one, hit-vote, hit-stop, hit-idle, differs, differs-turn, majority-right}
 
 -- k bits of the word w, of D bits, shifted in at the top
 abbrev pub partOf : ℕ → ℕ → ℕ → ℕ

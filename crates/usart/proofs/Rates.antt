@@ -1,7 +1,6 @@
 -- The arithmetic of demand 3, once over S = 2 * h and D: at a voting sample the line shows the bit that is being voted on.
-use mathlib.Core.Bool.{Bool}
 use mathlib.Core.Path.{_≡_, subst}
-use Prim.Native.Nat.{ℕ, _+_, _-_, _*_, _/_, _≤_, _<_}
+use Prim.Native.Nat.{ℕ, _+_, _*_, _/_, _≤_, _<_}
 use native.Mathlib.Nat.{mul-le-mul-left, mul-le-mul-right, div-eq-of-lt-le}
 use native.Mathlib.Omega.{arith}
 use Rattle.frame.specs.Format.{samples, firstVote, wordBits}

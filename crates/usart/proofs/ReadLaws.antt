@@ -1,19 +1,17 @@
 -- What the registers' bits say of the oldest frame.
-use mathlib.Core.Path.{_≡_, refl, _∙_, sym, ap}
+use mathlib.Core.Path.{_≡_, refl, _∙_, ap}
 use mathlib.Core.Bool.{Bool, true, false, not}
-use mathlib.Core.List.{List, [], _∷_, _++_, map}
-use Prim.Native.Nat.{ℕ, zero, suc, _+_, _*_, _/_, _%_, _^_, _≤_, _<_}
+use mathlib.Core.List.{[], _∷_, _++_, map}
+use Prim.Native.Nat.{ℕ, zero, suc, _+_, _*_, _/_, _%_, _≤_, _<_}
 use native.Mathlib.Nat.{mod-lt}
 use native.Mathlib.Omega.{arith}
 use lib.Dec.{eqb, lit≤}
 use Rattle.choice.specs.Pick.{pick, digit}
 use Rattle.usart.specs.Sender.{isVacant}
-use Rattle.usart.specs.Settings.{codeOf}
 use Rattle.usart.specs.Queue.{heldIn, isEmpty, oldestOf, takenFrom}
 use Rattle.usart.specs.Read.{ucsr0a, ucsr0b, oldest}
 use Rattle.usart.specs.Event.{read}
-use Rattle.usart.specs.Receiving.{bitAt, Seen, seenBy, seenIn, takenBy}
-use Rattle.usart.specs.declared.queue.Frame.{Frame}
+use Rattle.usart.specs.Receiving.{bitAt, seenBy, seenIn, takenBy}
 use Rattle.usart.specs.declared.queue.Places.{Places}
 use Rattle.usart.specs.declared.queue.Places.the-variants.{Empty, One, Two}
 use Rattle.usart.specs.declared.unit.Usart.{Usart}

@@ -1,27 +1,26 @@
 -- Demand 3 at the serial unit: the induction over the events.
-use mathlib.Core.Path.{_≡_, refl, _∙_, sym, ap, ap₂, subst}
+use mathlib.Core.Path.{_≡_, refl, _∙_, sym, ap, subst}
 use mathlib.Core.Bool.{Bool, true, false}
 use mathlib.Core.List.{List, [], _∷_, _++_, map, append-assoc, append-nil, map-append}
 use mathlib.Core.Logic.{⊎-elim}
-use Prim.Native.Nat.{ℕ, zero, suc, _+_, _-_, _*_, _/_, _%_, _^_, _≤_, _<_}
+use Prim.Native.Nat.{ℕ, zero, suc, _+_, _-_, _*_, _^_, _≤_, _<_}
 use native.Mathlib.Nat.{mul-le-mul-right, eq-or-lt-of-le, mod-eq-of-lt}
 use native.Mathlib.Omega.{arith}
 use lib.Dec.{ltb}
 use lib.ListN.{length, length-append}
 use borrow.Author.Tests.{lt-ltb, le-ltb}
-use Rattle.choice.specs.Pick.{pick, digit}
+use Rattle.choice.specs.Pick.{pick}
 use Rattle.frame.specs.Format.{dataBits, wordBits, firstVote}
 use Rattle.frame.specs.Word.{dataOf, wordOf, parityError}
 use Rattle.frame.specs.declared.format.Format.{Format}
 use Rattle.frame.proofs.WordLaws.{data-word, parity-right}
-use Rattle.usart.specs.Queue.{heldIn, markedOf, storedIn, takenFrom}
+use Rattle.usart.specs.Queue.{heldIn, markedOf}
 use Rattle.usart.specs.Receiver.{frameOf, putOf, receiverOf, listenedOf}
 use Rattle.usart.specs.Sampler.{samplerOf}
 use Rattle.usart.specs.Unit.{clockOf}
-use Rattle.usart.specs.Write.{withSender}
 use Rattle.usart.specs.Event.{Event, clock, write, read, vector, nextOf, finalOf, OnlyData, levelsOf}
-use Rattle.usart.specs.Line.{Sent, lineLevel, Fits, Spaced, EndedBy, Shows}
-use Rattle.usart.specs.Receiving.{Ready, heldBy, isComplete, outcomeAt, Free, Hears, bitAt, Seen, seenIn, takenBy, readsOf, clean, entriesOf, InTime, Delivered}
+use Rattle.usart.specs.Line.{Sent, lineLevel, Fits, EndedBy, Shows}
+use Rattle.usart.specs.Receiving.{heldBy, isComplete, outcomeAt, Free, Hears, Seen, seenIn, takenBy, readsOf, clean, entriesOf, InTime, Delivered}
 use Rattle.usart.specs.declared.sampler.Sampler.{Sampler}
 use Rattle.usart.specs.declared.sampler.Sampler.the-variants.{Idle, Receiving}
 use Rattle.usart.specs.declared.sampler.Outcome.{Outcome}
@@ -29,15 +28,14 @@ use Rattle.usart.specs.declared.sampler.Outcome.the-variants.{Nothing, C
 use Rattle.usart.specs.declared.sampler.Sampled.{Sampled}
 use Rattle.usart.specs.declared.queue.Frame.{Frame}
 use Rattle.usart.specs.declared.queue.Places.{Places}
-use Rattle.usart.specs.declared.receiver.Receiver.{Receiver}
 use Rattle.usart.specs.declared.unit.Usart.{Usart}
 use Rattle.usart.specs.declared.write.Register.the-variants.{Ucsr0a, Ucsr0b, Ucsr0c, Ubrr0l, Ubrr0h, Udr0}
 use Rattle.usart.proofs.Rates.{Rates, rates, tick-short, vote-high}
 use Rattle.usart.proofs.LineLaws.{From, spaced-from, past}
 use Rattle.usart.proofs.Noise.{hits}
-use Rattle.usart.proofs.OneTick.{InStep, Inv, Completes, GoodFor, keep, tick-good}
+use Rattle.usart.proofs.OneTick.{Inv, GoodFor, keep, tick-good}
 use Rattle.usart.proofs.ReadLaws.{taken-held}
-use Rattle.usart.proofs.EventLaws.{OnlySender, only-write, only-vector, unchanged}
+use Rattle.usart.proofs.EventLaws.{OnlySender, only-write, only-vector}
 use Rattle.usart.proofs.ClockLaws.{tickedAs, waitedAs, clock-tick, clock-wait, listened-on, outcome-tick, stored-held}
 
 -- every frame has ended by clock J

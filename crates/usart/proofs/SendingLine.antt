@@ -2,22 +2,21 @@
 use mathlib.Core.Path.{_≡_, refl, _∙_, sym, ap, subst}
 use mathlib.Core.Bool.{Bool, true, false}
 use mathlib.Core.List.{List, [], _∷_, _++_, map, append-assoc, append-nil}
-use Prim.Native.Nat.{ℕ, zero, suc, _+_, _-_, _*_, _/_, _%_, _^_, _≤_, _<_}
+use Prim.Native.Nat.{ℕ, zero, suc, _+_, _-_, _*_, _/_, _≤_, _<_}
 use native.Mathlib.Nat.{mul-le-mul-right, div-eq-of-lt-le, mul-pos, mod-lt}
 use native.Mathlib.Decide.{decLt}
 use native.Mathlib.Omega.{arith}
-use lib.Dec.{ltb, lit≤}
+use lib.Dec.{ltb}
 use lib.Pow.{pow-pos}
 use borrow.Author.Tests.{ltb-true, ltb-false}
 use Rattle.choice.specs.Pick.{pick, digit}
 use Rattle.choice.proofs.Picks.{pick-ind}
-use Rattle.frame.specs.Format.{samples, dataBits, wordBits, stopBits, lastBit}
+use Rattle.frame.specs.Format.{samples, dataBits, wordBits, lastBit}
 use Rattle.frame.specs.Word.{dataOf, wordOf, frameBit}
 use Rattle.frame.specs.declared.format.Format.{Format}
 use Rattle.frame.proofs.FormatLaws.{samples-half, first-vote-range, stop-bits-range}
-use Rattle.frame.proofs.WordLaws.{start-bit, stop-bit}
-use Rattle.usart.specs.Sender.{isVacant, bufferOf, begun, movedFrom, steppedOf, placed, atOf, shiftedOn, senderOf, txdOf}
-use Rattle.usart.specs.Receiver.{listenedOf}
+use Rattle.frame.proofs.WordLaws.{stop-bit}
+use Rattle.usart.specs.Sender.{isVacant, bufferOf, begun, movedFrom, steppedOf, placed, shiftedOn, senderOf, txdOf}
 use Rattle.usart.specs.Unit.{clockOf, isDriven, outputOf, txcRequested}
 use Rattle.usart.specs.Write.{transmittedOf, writeOf, vectorOf}
 use Rattle.usart.specs.Event.{Event, clock, write, read, vector, settled, nextOf, finalOf, isRefused, isUdr0, OnlyData}
@@ -27,7 +26,6 @@ use Rattle.usart.specs.Sending.{MaySend, waiting, acceptedBy, acceptedOf
 use Rattle.usart.specs.declared.sender.Buffer.{Buffer}
 use Rattle.usart.specs.declared.sender.Buffer.the-variants.{Vacant, Full}
 use Rattle.usart.specs.declared.sender.Transmission.{Transmission}
-use Rattle.usart.specs.declared.sender.Shifter.{Shifter}
 use Rattle.usart.specs.declared.sender.Shifter.the-variants.{Resting, Sending}
 use Rattle.usart.specs.declared.sender.Sender.{Sender}
 use Rattle.usart.specs.declared.unit.Usart.{Usart}
@@ -36,7 +34,7 @@ use Rattle.usart.specs.declared.write.Register.{Register}
 use Rattle.usart.specs.declared.write.Register.the-variants.{Ucsr0a, Ucsr0b, Ucsr0c, Ubrr0l, Ubrr0h, Udr0}
 use Rattle.usart.proofs.LineLaws.{From, later, from-spaced, over, within, quiet}
 use Rattle.usart.proofs.EventLaws.{refused-settled}
-use Rattle.usart.proofs.ClockLaws.{tickedAs, waitedAs, clock-tick, clock-wait}
+use Rattle.usart.proofs.ClockLaws.{clock-tick, clock-wait}
 
 -- an enabled sender drives its level
 output-driven : (u : Usart) → u .control .txen ≡ true → outputOf u ≡ digit (txdOf (u .format) (u .sender .shifter)) + 16

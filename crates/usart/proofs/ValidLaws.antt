@@ -1,30 +1,29 @@
 -- Every operation keeps the ranges, and reset has them.
-use mathlib.Core.Path.{_≡_, refl, _∙_, sym, ap, subst}
+use mathlib.Core.Path.{_≡_, refl, _∙_, ap}
 use mathlib.Core.Bool.{Bool, true, false}
-use Prim.Native.Nat.{ℕ, zero, suc, _+_, _-_, _*_, _/_, _%_, _^_, _≤_, _<_}
+use Prim.Native.Nat.{ℕ, _+_, _-_, _*_, _/_, _%_, _^_, _≤_, _<_}
 use native.Mathlib.Nat.{mod-lt}
 use native.Mathlib.Omega.{arith}
-use lib.Dec.{eqb, ltb, leb, lit≤, lit<}
+use lib.Dec.{eqb, ltb, leb, lit<}
 use lib.Pow.{pow-pos, pow-mono, pow-add}
 use borrow.Author.Tests.{ltb-true, leb-true, leb-false}
 use Rattle.choice.specs.Pick.{pick, digit}
 use Rattle.choice.proofs.Picks.{pick-ind}
 use Rattle.frame.specs.Format.{samples, firstVote, dataBits, wordBits, lastBit}
-use Rattle.frame.specs.Word.{dataOf, wordOf}
-use Rattle.frame.specs.declared.format.Size.{Size}
+use Rattle.frame.specs.Word.{dataOf}
 use Rattle.frame.specs.declared.format.Format.{Format}
 use Rattle.frame.proofs.FormatLaws.{samples-half, first-vote-range, word-bits-range, data-bits-range}
 use Rattle.frame.proofs.WordLaws.{word-lt}
 use Rattle.usart.specs.Baud.{ticks, leftOf, baudOf, loadedOf}
-use Rattle.usart.specs.Sender.{isVacant, isResting, bufferOf, filledOf, acknowledgedOf, movedFrom, steppedOf, shiftedOn, senderOf}
+use Rattle.usart.specs.Sender.{isVacant, isResting, bufferOf, acknowledgedOf, movedFrom, steppedOf, shiftedOn, senderOf}
 use Rattle.usart.specs.Sampler.{isReceiving, idleOf, castOf, nextBitOf, shiftedOf, decidedOf, votedOf, sampledOf, samplerOf}
 use Rattle.usart.specs.Queue.{storedIn, takenFrom}
-use Rattle.usart.specs.Receiver.{frameOf, putOf, receiverOf, listenedOf, stopped, enabledOf}
+use Rattle.usart.specs.Receiver.{frameOf, putOf, listenedOf, stopped, enabledOf}
 use Rattle.usart.specs.Unit.{resetUsart, isBusy, clockOf, txcRequested}
 use Rattle.usart.specs.Settings.{codeOf, sizeOf, settingsOf}
 use Rattle.usart.specs.Read.{readOf}
-use Rattle.usart.specs.Write.{withSender, withFormat, withBaud, formattedOf, clearedOf, withU2x, writeA, controlled, withSize, codedB, writeB, isReservedC, formatIn, sizedC, codedC, writeC, timedOf, writeH, transmittedOf, writeOf, vectorOf}
-use Rattle.usart.specs.Event.{Event, clock, write, read, vector, settled, nextOf, finalOf}
+use Rattle.usart.specs.Write.{withSender, formattedOf, clearedOf, withU2x, writeA, controlled, withSize, codedB, writeB, isReservedC, formatIn, sizedC, codedC, writeC, timedOf, writeH, transmittedOf, writeOf, vectorOf}
+use Rattle.usart.specs.Event.{settled}
 use Rattle.usart.specs.Valid.{ValidBaud, ValidBuffer, ValidTransmission, ValidShifter, ValidSender, ValidReception, ValidSampler, ValidPlaces, ValidReceiver, Valid}
 use Rattle.usart.specs.declared.baud.Clocks.{Clocks}
 use Rattle.usart.specs.declared.baud.Baud.{Baud}
@@ -52,7 +51,6 @@ use Rattle.usart.specs.declared.unit.Usart.{Usart}
 use Rattle.usart.specs.declared.write.Register.{Register}
 use Rattle.usart.specs.declared.write.Register.the-variants.{Ucsr0a, Ucsr0b, Ucsr0c, Ubrr0l, Ubrr0h, Udr0}
 use Rattle.usart.specs.declared.write.Written.{Written}
-use Rattle.usart.specs.declared.write.Written.the-variants.{Done, Refused}
 
 valid-baud : (b : Baud) → ValidBaud b → ValidBaud (baudOf b)
 unfolding leftOf

@@ -1,14 +1,14 @@
 -- The receiving theorem is not empty: a closed list of events that meets every premise with two frames, at unequal crystals, with reads,
 -- a write of UDR0, refused accesses and a vector among the clocks.
-use mathlib.Core.Path.{_≡_, refl, _∙_, sym}
+use mathlib.Core.Path.{_≡_, refl, sym}
 use mathlib.Core.Bool.{Bool, true, false}
-use mathlib.Core.List.{List, [], _∷_, _++_}
-use Prim.Native.Nat.{ℕ, zero, suc, _+_, _-_, _*_, _≤_, _<_}
+use mathlib.Core.List.{List, [], _∷_}
+use Prim.Native.Nat.{ℕ, zero, suc, _≤_, _<_}
 use native.Mathlib.Omega.{arith}
-use lib.Dec.{ltb, eqb, lit≤, lit<}
+use lib.Dec.{ltb, lit≤, lit<}
 use lib.ListN.{length}
 use borrow.Author.Tests.{ltb-true}
-use Rattle.choice.specs.Pick.{pick, digit}
+use Rattle.choice.specs.Pick.{pick}
 use Rattle.frame.specs.Parity.{sumOfBits}
 use Rattle.frame.specs.Word.{frameBit, parityError}
 use Rattle.frame.specs.declared.format.Size.the-variants.{Five}
@@ -22,7 +22,7 @@ use Rattle.usart.specs.Settings.{sizeOf, parityOf}
 use Rattle.usart.specs.Write.{formattedOf, writeC, isReservedC, sizedC, timedOf, transmittedOf, vectorOf}
 use Rattle.usart.specs.Event.{Event, clock, write, read, vector, nextOf, levelsOf}
 use Rattle.usart.specs.Line.{Sent, lineLevel, Shows}
-use Rattle.usart.specs.Receiving.{heldBy, isComplete, outcomeAt, Free, Hears, readsOf, clean, Delivered}
+use Rattle.usart.specs.Receiving.{heldBy, isComplete, outcomeAt, Free, Hears, Delivered}
 use Rattle.usart.specs.declared.sender.Buffer.the-variants.{Vacant}
 use Rattle.usart.specs.declared.sender.Shifter.the-variants.{Resting}
 use Rattle.usart.specs.declared.sampler.Sampler.the-variants.{Idle}

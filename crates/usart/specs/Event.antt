@@ -7,10 +7,8 @@ use Rattle.usart.specs.Unit.{clockOf}
 use Rattle.usart.specs.Read.{readOf}
 use Rattle.usart.specs.Write.{writeOf, vectorOf}
 use Rattle.usart.specs.declared.unit.Usart.{Usart}
-use Rattle.usart.specs.declared.read.Reading.{Reading}
 use Rattle.usart.specs.declared.write.Register.{Register}
 use Rattle.usart.specs.declared.write.Register.the-variants.{Ucsr0a, Ucsr0b, Ucsr0c, Ubrr0l, Ubrr0h, Udr0}
-use Rattle.usart.specs.declared.write.Refusal.{Refusal}
 use Rattle.usart.specs.declared.write.Written.{Written}
 use Rattle.usart.specs.declared.write.Written.the-variants.{Done, Refused}
 

@@ -1,5 +1,4 @@
 -- The receive buffer of two places (document 01, 'Receiver', second paragraph).
-use Prim.Native.Nat.{ℕ}
 use mathlib.Core.Bool.{Bool, true, false}
 use mathlib.Core.List.{List, [], _∷_}
 use Rattle.usart.specs.declared.queue.Frame.{Frame}

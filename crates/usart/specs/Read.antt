@@ -1,13 +1,12 @@
 -- What the serial registers read (document 01, 'Receiver'; bit places by source 004).
 use Prim.Native.Nat.{ℕ, _+_, _*_, _/_, _%_}
-use mathlib.Core.Bool.{Bool, not}
+use mathlib.Core.Bool.{not}
 use lib.Dec.{eqb}
 use Rattle.choice.specs.Pick.{digit}
 use Rattle.usart.specs.Sender.{isVacant}
 use Rattle.usart.specs.Queue.{isEmpty, oldestOf, takenOf}
 use Rattle.usart.specs.Settings.{codeOf, upmOf}
 use Rattle.usart.specs.declared.queue.Frame.{Frame}
-use Rattle.usart.specs.declared.unit.Control.{Control}
 use Rattle.usart.specs.declared.unit.Usart.{Usart}
 use Rattle.usart.specs.declared.read.Reading.{Reading}
 use Rattle.usart.specs.declared.write.Register.{Register}

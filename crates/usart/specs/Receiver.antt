@@ -1,12 +1,11 @@
 -- The receiver: its sampler, and the queue behind it (document 01, 'Receiver').
 use Prim.Native.Nat.{ℕ}
-use mathlib.Core.Bool.{Bool, true, false, not}
+use mathlib.Core.Bool.{Bool, false, not}
 use Rattle.choice.specs.Pick.{pick}
 use Rattle.frame.specs.Word.{dataOf, parityError}
 use Rattle.frame.specs.declared.format.Format.{Format}
 use Rattle.usart.specs.Sampler.{samplerOf}
 use Rattle.usart.specs.Queue.{storedOf}
-use Rattle.usart.specs.declared.sampler.Sampler.{Sampler}
 use Rattle.usart.specs.declared.sampler.Sampler.the-variants.{Idle}
 use Rattle.usart.specs.declared.sampler.Outcome.{Outcome}
 use Rattle.usart.specs.declared.sampler.Outcome.the-variants.{Nothing, Complete}

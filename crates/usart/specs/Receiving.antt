@@ -8,7 +8,6 @@ use lib.ListN.{length}
 use Rattle.choice.specs.Pick.{pick, digit}
 use Rattle.frame.specs.Format.{samples, wordBits}
 use Rattle.frame.specs.Limit.{limit, Within}
-use Rattle.frame.specs.declared.format.Format.{Format}
 use Rattle.usart.specs.Baud.{ticks}
 use Rattle.usart.specs.Sampler.{samplerOf}
 use Rattle.usart.specs.Queue.{heldIn}
@@ -22,7 +21,6 @@ use Rattle.usart.specs.declared.sampler.Outcome.the-variants.{Nothing, C
 use Rattle.usart.specs.declared.queue.Frame.{Frame}
 use Rattle.usart.specs.declared.queue.Places.the-variants.{Empty}
 use Rattle.usart.specs.declared.unit.Usart.{Usart}
-use Rattle.usart.specs.declared.write.Register.{Register}
 use Rattle.usart.specs.declared.write.Register.the-variants.{Ucsr0a, Ucsr0b, Udr0}
 
 -- enabled, idle, the last sample high, nothing held, no loss pending; any baud counter not above UBRR

@@ -6,7 +6,6 @@ use Rattle.choice.specs.Pick.{pick}
 use Rattle.frame.specs.Format.{samples, wordBits, lastBit}
 use Rattle.frame.specs.Word.{wordOf, frameBit}
 use Rattle.frame.specs.declared.format.Format.{Format}
-use Rattle.usart.specs.declared.sample.Sample.{Sample}
 use Rattle.usart.specs.declared.sender.Buffer.{Buffer}
 use Rattle.usart.specs.declared.sender.Buffer.the-variants.{Vacant, Full}
 use Rattle.usart.specs.declared.sender.Transmission.{Transmission}

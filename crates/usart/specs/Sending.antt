@@ -1,6 +1,6 @@
 -- The sender's line at the serial unit.
-use Prim.Native.Nat.{ℕ, suc, _+_, _*_, _≤_}
-use mathlib.Core.Bool.{Bool, true, false}
+use Prim.Native.Nat.{ℕ, suc, _+_, _*_}
+use mathlib.Core.Bool.{Bool, true}
 use mathlib.Core.List.{List, [], _∷_, _++_, map}
 use mathlib.Core.Path.{_≡_}
 use Rattle.choice.specs.Pick.{pick, digit}
@@ -15,7 +15,6 @@ use Rattle.usart.specs.declared.sender.Buffer.{Buffer}
 use Rattle.usart.specs.declared.sender.Buffer.the-variants.{Vacant, Full}
 use Rattle.usart.specs.declared.sender.Shifter.the-variants.{Resting}
 use Rattle.usart.specs.declared.unit.Usart.{Usart}
-use Rattle.usart.specs.declared.write.Register.{Register}
 
 -- enabled, nothing in shift at first; the buffer may hold a frame; any baud counter
 pub record MaySend (u : Usart) (es : List Event) : Type 0 where

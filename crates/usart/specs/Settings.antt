@@ -1,6 +1,5 @@
 -- The format as the registers' bits give it (document 01, 'Registers and their writes'; bit places and size codes by source 004).
 use Prim.Native.Nat.{ℕ, _+_, _*_}
-use mathlib.Core.Bool.{Bool}
 use lib.Dec.{eqb}
 use Rattle.choice.specs.Pick.{pick, digit}
 use Rattle.frame.specs.declared.format.Size.{Size}

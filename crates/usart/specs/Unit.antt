@@ -4,7 +4,6 @@ use mathlib.Core.Bool.{Bool, true, false, not}
 use Rattle.choice.specs.Pick.{pick, digit}
 use Rattle.frame.specs.declared.format.Size.the-variants.{Eight}
 use Rattle.frame.specs.declared.format.Parity.the-variants.{Off}
-use Rattle.frame.specs.declared.format.Format.{Format}
 use Rattle.usart.specs.Baud.{ticks, baudOf}
 use Rattle.usart.specs.Sender.{isVacant, isResting, senderOf, txdOf}
 use Rattle.usart.specs.Sampler.{isReceiving}
@@ -12,7 +11,6 @@ use Rattle.usart.specs.Queue.{isEmpty}
 use Rattle.usart.specs.Receiver.{listenedOf, stopped}
 use Rattle.usart.specs.declared.sender.Buffer.the-variants.{Vacant}
 use Rattle.usart.specs.declared.sender.Shifter.the-variants.{Resting}
-use Rattle.usart.specs.declared.unit.Control.{Control}
 use Rattle.usart.specs.declared.unit.Usart.{Usart}
 
 -- after reset: 8 data bits, no parity, 1 stop bit (UCSR0C 0x06), UDRE (UCSR0A 0x20), the rest 0

@@ -1,7 +1,7 @@
 -- The ranges of the unit's fields. Frames held for reading outlive a change of format, so their range is not bound by the present one;
 -- what the sender holds and a frame under way in the receiver are.
-use Prim.Native.Nat.{ℕ, _+_, _^_, _<_, _≤_}
-use mathlib.Core.Bool.{Bool, false}
+use Prim.Native.Nat.{_+_, _^_, _<_, _≤_}
+use mathlib.Core.Bool.{false}
 use mathlib.Core.Path.{_≡_}
 use Rattle.frame.specs.Format.{samples, dataBits, wordBits, lastBit}
 use Rattle.frame.specs.declared.format.Format.{Format}
@@ -16,10 +16,8 @@ use Rattle.usart.specs.declared.sender.Sender.{Sender}
 use Rattle.usart.specs.declared.sampler.Reception.{Reception}
 use Rattle.usart.specs.declared.sampler.Sampler.{Sampler}
 use Rattle.usart.specs.declared.sampler.Sampler.the-variants.{Idle, Receiving}
-use Rattle.usart.specs.declared.queue.Frame.{Frame}
 use Rattle.usart.specs.declared.queue.Places.{Places}
 use Rattle.usart.specs.declared.queue.Places.the-variants.{Empty, One, Two}
-use Rattle.usart.specs.declared.queue.Queue.{Queue}
 use Rattle.usart.specs.declared.receiver.Receiver.{Receiver}
 use Rattle.usart.specs.declared.unit.Usart.{Usart}
 

@@ -1,5 +1,5 @@
 -- Writes of the serial registers, in document 01's order ('Registers and their writes'), and vector 0.
-use Prim.Native.Nat.{ℕ, _+_, _*_, _/_, _%_, _^_}
+use Prim.Native.Nat.{ℕ, _+_, _*_, _/_, _%_}
 use mathlib.Core.Bool.{Bool, true}
 use lib.Dec.{eqb, leb}
 use Rattle.choice.specs.Pick.{pick, digit}

@@ -1,4 +1,3 @@
-use crate::queue::Frame;
 use crate::receiver::Receiver;
 use crate::settings::size_code;
 use crate::settings::upm;

@@ -126,10 +126,11 @@ impl Reception {
     fn decided(self, f: Format, rxd: bool, level: bool) -> Sampled
         ensures { λ r. ⌜ r ≡ decidedOf f self rxd level ⌝ }
     {
+        let rest = Sampler::Idle(rxd);
         if self.bit == 0 {
             if level {
                 return Sampled {
-                    sampler: Sampler::Idle(rxd),
+                    sampler: rest,
                     outcome: Outcome::Nothing,
                 };
             }
@@ -146,7 +147,7 @@ impl Reception {
             };
         }
         Sampled {
-            sampler: Sampler::Idle(rxd),
+            sampler: rest,
             outcome: Outcome::Complete(self.word, level),
         }
     }

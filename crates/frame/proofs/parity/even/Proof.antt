@@ -1,6 +1,5 @@
 use native.Mathlib.Nat.{add-zero}
 use native.Mathlib.Omega.{arith}
-use Rattle.choice.proofs.Picks.{picks}
 use Rattle.frame.specs.Parity.{sumOfBits}
 use borrow.Author.Needs.{needs}
 use Rattle.frame.proofs.parity.even.Statement.{statement}

@@ -1,4 +1,3 @@
-use Rattle.choice.proofs.Picks.{picks}
 use borrow.Author.Needs.{needs}
 use Rattle.frame.proofs.format.Format.limit.Statement.{statement}
 use Rattle.frame.proofs.format.Format.limit.Tie as tie

@@ -2,7 +2,6 @@ use mathlib.Core.Path.{ap}
 use Prim.Native.Nat.{ℕ, _%_}
 use native.Mathlib.Nat.{mod-lt}
 use native.Mathlib.Omega.{arith}
-use Rattle.choice.proofs.Picks.{picks}
 use borrow.Author.Needs.{needs}
 use Rattle.frame.proofs.format.Format.masked.Statement.{statement}
 use Rattle.frame.proofs.format.Format.masked.Tie as tie

@@ -1,6 +1,5 @@
 use native.Mathlib.Omega.{arith}
 use Rattle.frame.proofs.ParityLaws.{parity-even, parity-odd}
-use Rattle.choice.proofs.Picks.{picks}
 use borrow.Author.Needs.{needs}
 use Rattle.frame.proofs.format.Format.parity_bit.Statement.{statement}
 use Rattle.frame.proofs.format.Format.parity_bit.Tie as tie

@@ -2,7 +2,6 @@ use mathlib.Core.Path.{ap, _∙_}
 use Prim.Native.Nat.{ℕ, _/_}
 use native.Mathlib.Omega.{arith}
 use Rattle.frame.proofs.FormatLaws.{top-off, top-on}
-use Rattle.choice.proofs.Picks.{picks}
 use borrow.Author.Needs.{needs}
 use Rattle.frame.proofs.format.Format.top.Statement.{statement}
 use Rattle.frame.proofs.format.Format.top.Tie as tie

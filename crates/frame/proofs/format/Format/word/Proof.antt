@@ -1,6 +1,5 @@
 use native.Mathlib.Nat.{mul-le-mul}
 use native.Mathlib.Omega.{arith}
-use Rattle.choice.proofs.Picks.{picks}
 use borrow.Author.Needs.{needs}
 use Rattle.frame.proofs.format.Format.word.Statement.{statement}
 use Rattle.frame.proofs.format.Format.word.Tie as tie

@@ -1,4 +1,3 @@
-use Rattle.choice.proofs.Picks.{picks}
 use borrow.Author.Needs.{needs}
 use Rattle.frame.proofs.format.Size.weight.Statement.{statement}
 use Rattle.frame.proofs.format.Size.weight.Tie as tie

@@ -1,4 +1,3 @@
-use Rattle.choice.proofs.Picks.{picks}
 use borrow.Author.Needs.{needs}
 use Rattle.usart.proofs.baud.Baud.next.Statement.{statement}
 use Rattle.usart.proofs.baud.Baud.next.Tie as tie

@@ -1,4 +1,3 @@
-use Rattle.choice.proofs.Picks.{picks}
 use borrow.Author.Needs.{needs}
 use Rattle.usart.proofs.receiver.Receiver.tick.Statement.{statement}
 use Rattle.usart.proofs.receiver.Receiver.tick.Tie as tie

@@ -1,4 +1,3 @@
-use Rattle.choice.proofs.Picks.{picks}
 use Rattle.usart.specs.Sampler.{samplerOf}
 use borrow.Author.Needs.{needs}
 use Rattle.usart.proofs.sampler.Sampler.tick.Statement.{statement}

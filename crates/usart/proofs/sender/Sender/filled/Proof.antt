@@ -1,4 +1,3 @@
-use Rattle.choice.proofs.Picks.{picks}
 use borrow.Author.Needs.{needs}
 use Rattle.usart.proofs.sender.Sender.filled.Statement.{statement}
 use Rattle.usart.proofs.sender.Sender.filled.Tie as tie

@@ -1,6 +1,5 @@
 use mathlib.Core.Path.{ap, sym, _∙_}
 use Rattle.usart.specs.Sender.{shiftedOn}
-use Rattle.choice.proofs.Picks.{picks}
 use borrow.Author.Needs.{needs}
 use Rattle.usart.proofs.sender.Sender.tick.Statement.{statement}
 use Rattle.usart.proofs.sender.Sender.tick.Tie as tie

@@ -1,7 +1,6 @@
 use mathlib.Core.Path.{sym, refl, _∙_}
 use Rattle.choice.proofs.Picks.{pick-true, pick-false}
 use Rattle.usart.specs.Write.{vectorOf}
-use Rattle.choice.proofs.Picks.{picks}
 use borrow.Author.Needs.{needs}
 use Rattle.usart.proofs.unit.Usart.take_vector.Statement.{statement}
 use Rattle.usart.proofs.unit.Usart.take_vector.Tie as tie

@@ -1,4 +1,3 @@
-use Rattle.choice.proofs.Picks.{picks}
 use borrow.Author.Needs.{needs}
 use Rattle.usart.proofs.unit.Usart.write_ubrr0l.Statement.{statement}
 use Rattle.usart.proofs.unit.Usart.write_ubrr0l.Tie as tie
