@@ -4,8 +4,6 @@ use Rattle.frame.specs.Parity.{sumOfBits}
 use borrow.Author.Needs.{needs}
 use Rattle.frame.proofs.parity.even.Statement.{statement}
 use Rattle.frame.proofs.parity.even.Tie as tie
-use Rattle.frame.proofs.parity.even.Reads as reads
-use Rattle.frame.proofs.parity.even.Lts as lts
 
 add-result : tie.Need-add-result
 add-result c = search needs

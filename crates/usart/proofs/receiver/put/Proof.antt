@@ -1,10 +1,6 @@
 use borrow.Author.Needs.{needs}
 use Rattle.usart.proofs.receiver.put.Statement.{statement}
 use Rattle.usart.proofs.receiver.put.Tie as tie
-use Rattle.usart.proofs.receiver.put.Reads as reads
-use Rattle.usart.proofs.receiver.put.Lts as lts
-use Rattle.usart.proofs.queue.Queue.stored.Reads as stored-reads
-use Rattle.usart.proofs.receiver.received.Reads as received-reads
 
 enum-told : tie.Need-enum-told
 enum-told c = search needs

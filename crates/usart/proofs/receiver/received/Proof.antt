@@ -1,10 +1,6 @@
 use borrow.Author.Needs.{needs}
 use Rattle.usart.proofs.receiver.received.Statement.{statement}
 use Rattle.usart.proofs.receiver.received.Tie as tie
-use Rattle.usart.proofs.receiver.received.Reads as reads
-use Rattle.usart.proofs.receiver.received.Lts as lts
-use Rattle.frame.proofs.format.Format.masked.Reads as masked-reads
-use Rattle.frame.proofs.format.Format.parity_error.Reads as parity-error-reads
 
 masked-requires : tie.Need-masked-requires
 masked-requires c κs = search needs

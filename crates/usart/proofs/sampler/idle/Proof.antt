@@ -2,8 +2,6 @@ use Rattle.choice.proofs.Picks.{picks}
 use Rattle.usart.specs.Sampler.{idleOf}
 use Rattle.usart.proofs.sampler.idle.Statement.{statement}
 use Rattle.usart.proofs.sampler.idle.Tie as tie
-use Rattle.usart.proofs.sampler.idle.Reads as reads
-use Rattle.usart.proofs.sampler.idle.Lts as lts
 
 returns : tie.Need-returns
 unfolding idleOf

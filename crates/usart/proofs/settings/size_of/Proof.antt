@@ -2,8 +2,6 @@ use Rattle.choice.proofs.Picks.{picks}
 use Rattle.usart.specs.Settings.{sizeOf}
 use Rattle.usart.proofs.settings.size_of.Statement.{statement}
 use Rattle.usart.proofs.settings.size_of.Tie as tie
-use Rattle.usart.proofs.settings.size_of.Reads as reads
-use Rattle.usart.proofs.settings.size_of.Lts as lts
 
 returns : tie.Need-returns
 unfolding sizeOf

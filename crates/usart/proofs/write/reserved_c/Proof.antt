@@ -2,8 +2,6 @@ use Rattle.choice.proofs.Picks.{picks}
 use Rattle.usart.specs.Write.{isReservedC}
 use Rattle.usart.proofs.write.reserved_c.Statement.{statement}
 use Rattle.usart.proofs.write.reserved_c.Tie as tie
-use Rattle.usart.proofs.write.reserved_c.Reads as reads
-use Rattle.usart.proofs.write.reserved_c.Lts as lts
 
 returns : tie.Need-returns
 unfolding isReservedC

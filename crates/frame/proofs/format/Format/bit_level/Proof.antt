@@ -3,9 +3,6 @@ use Rattle.choice.proofs.Picks.{picks}
 use borrow.Author.Needs.{needs}
 use Rattle.frame.proofs.format.Format.bit_level.Statement.{statement}
 use Rattle.frame.proofs.format.Format.bit_level.Tie as tie
-use Rattle.frame.proofs.format.Format.bit_level.Reads as reads
-use Rattle.frame.proofs.format.Format.bit_level.Lts as lts
-use Rattle.frame.proofs.format.Format.word_bits.Reads as word-bits-reads
 
 returns : tie.Need-returns
 unfolding frameBit

@@ -1,9 +1,6 @@
 use borrow.Author.Needs.{needs}
 use Rattle.frame.proofs.format.Format.limit.Statement.{statement}
 use Rattle.frame.proofs.format.Format.limit.Tie as tie
-use Rattle.frame.proofs.format.Format.limit.Reads as reads
-use Rattle.frame.proofs.format.Format.limit.Lts as lts
-use Rattle.frame.proofs.format.Format.word_bits.Reads as word-bits-reads
 
 word-bits-requires : tie.Need-word-bits-requires
 word-bits-requires c κs = search needs

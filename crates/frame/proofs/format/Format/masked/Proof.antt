@@ -5,9 +5,6 @@ use native.Mathlib.Omega.{arith}
 use borrow.Author.Needs.{needs}
 use Rattle.frame.proofs.format.Format.masked.Statement.{statement}
 use Rattle.frame.proofs.format.Format.masked.Tie as tie
-use Rattle.frame.proofs.format.Format.masked.Reads as reads
-use Rattle.frame.proofs.format.Format.masked.Lts as lts
-use Rattle.frame.proofs.format.Size.weight.Reads as weight-reads
 
 weight-requires : tie.Need-weight-requires
 weight-requires c κs = search needs

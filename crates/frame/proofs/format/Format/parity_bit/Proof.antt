@@ -3,10 +3,6 @@ use Rattle.frame.proofs.ParityLaws.{parity-even, parity-odd}
 use borrow.Author.Needs.{needs}
 use Rattle.frame.proofs.format.Format.parity_bit.Statement.{statement}
 use Rattle.frame.proofs.format.Format.parity_bit.Tie as tie
-use Rattle.frame.proofs.format.Format.parity_bit.Reads as reads
-use Rattle.frame.proofs.format.Format.parity_bit.Lts as lts
-use Rattle.frame.proofs.format.Format.masked.Reads as masked-reads
-use Rattle.frame.proofs.parity.even.Reads as even-reads
 
 masked-requires : tie.Need-masked-requires
 masked-requires c κs = search needs

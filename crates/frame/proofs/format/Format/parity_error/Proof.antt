@@ -3,11 +3,6 @@ use Rattle.choice.proofs.Picks.{picks}
 use borrow.Author.Needs.{needs}
 use Rattle.frame.proofs.format.Format.parity_error.Statement.{statement}
 use Rattle.frame.proofs.format.Format.parity_error.Tie as tie
-use Rattle.frame.proofs.format.Format.parity_error.Reads as reads
-use Rattle.frame.proofs.format.Format.parity_error.Lts as lts
-use Rattle.frame.proofs.format.Format.parity_bit.Reads as parity-bit-reads
-use Rattle.frame.proofs.format.Parity.bits.Reads as bits-reads
-use Rattle.frame.proofs.format.Size.weight.Reads as weight-reads
 
 bits-requires : tie.Need-bits-requires
 bits-requires c κs = search needs

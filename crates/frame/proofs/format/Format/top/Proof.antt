@@ -5,9 +5,6 @@ use Rattle.frame.proofs.FormatLaws.{top-off, top-on}
 use borrow.Author.Needs.{needs}
 use Rattle.frame.proofs.format.Format.top.Statement.{statement}
 use Rattle.frame.proofs.format.Format.top.Tie as tie
-use Rattle.frame.proofs.format.Format.top.Reads as reads
-use Rattle.frame.proofs.format.Format.top.Lts as lts
-use Rattle.frame.proofs.format.Size.weight.Reads as weight-reads
 
 weight-requires : tie.Need-weight-requires
 weight-requires c κs = search needs

@@ -3,11 +3,6 @@ use native.Mathlib.Omega.{arith}
 use borrow.Author.Needs.{needs}
 use Rattle.frame.proofs.format.Format.word.Statement.{statement}
 use Rattle.frame.proofs.format.Format.word.Tie as tie
-use Rattle.frame.proofs.format.Format.word.Reads as reads
-use Rattle.frame.proofs.format.Format.word.Lts as lts
-use Rattle.frame.proofs.format.Format.masked.Reads as masked-reads
-use Rattle.frame.proofs.format.Format.parity_bit.Reads as parity-bit-reads
-use Rattle.frame.proofs.format.Size.weight.Reads as weight-reads
 
 masked-requires : tie.Need-masked-requires
 masked-requires c κs = search needs

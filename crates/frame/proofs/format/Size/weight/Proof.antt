@@ -1,8 +1,6 @@
 use borrow.Author.Needs.{needs}
 use Rattle.frame.proofs.format.Size.weight.Statement.{statement}
 use Rattle.frame.proofs.format.Size.weight.Tie as tie
-use Rattle.frame.proofs.format.Size.weight.Reads as reads
-use Rattle.frame.proofs.format.Size.weight.Lts as lts
 
 enum-told : tie.Need-enum-told
 enum-told c = search needs

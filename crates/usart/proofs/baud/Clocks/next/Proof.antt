@@ -3,8 +3,6 @@ use Rattle.usart.specs.Baud.{leftOf}
 use borrow.Author.Needs.{needs}
 use Rattle.usart.proofs.baud.Clocks.next.Statement.{statement}
 use Rattle.usart.proofs.baud.Clocks.next.Tie as tie
-use Rattle.usart.proofs.baud.Clocks.next.Reads as reads
-use Rattle.usart.proofs.baud.Clocks.next.Lts as lts
 
 sub-t5 : tie.Need-sub-t5
 sub-t5 c = search needs

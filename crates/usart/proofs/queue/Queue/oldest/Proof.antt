@@ -1,8 +1,6 @@
 use borrow.Author.Needs.{needs}
 use Rattle.usart.proofs.queue.Queue.oldest.Statement.{statement}
 use Rattle.usart.proofs.queue.Queue.oldest.Tie as tie
-use Rattle.usart.proofs.queue.Queue.oldest.Reads as reads
-use Rattle.usart.proofs.queue.Queue.oldest.Lts as lts
 
 enum-told : tie.Need-enum-told
 enum-told c = search needs

@@ -1,9 +1,6 @@
 use borrow.Author.Needs.{needs}
 use Rattle.usart.proofs.queue.Queue.stored.Statement.{statement}
 use Rattle.usart.proofs.queue.Queue.stored.Tie as tie
-use Rattle.usart.proofs.queue.Queue.stored.Reads as reads
-use Rattle.usart.proofs.queue.Queue.stored.Lts as lts
-use Rattle.usart.proofs.queue.Frame.marked.Reads as marked-reads
 
 marked-requires : tie.Need-marked-requires
 marked-requires c κs = search needs

@@ -1,8 +1,6 @@
 use borrow.Author.Needs.{needs}
 use Rattle.usart.proofs.queue.Queue.taken.Statement.{statement}
 use Rattle.usart.proofs.queue.Queue.taken.Tie as tie
-use Rattle.usart.proofs.queue.Queue.taken.Reads as reads
-use Rattle.usart.proofs.queue.Queue.taken.Lts as lts
 
 enum-told : tie.Need-enum-told
 enum-told c = search needs

@@ -3,9 +3,6 @@ use Rattle.usart.specs.Receiver.{enabledOf}
 use borrow.Author.Needs.{needs}
 use Rattle.usart.proofs.receiver.Receiver.enabled.Statement.{statement}
 use Rattle.usart.proofs.receiver.Receiver.enabled.Tie as tie
-use Rattle.usart.proofs.receiver.Receiver.enabled.Reads as reads
-use Rattle.usart.proofs.receiver.Receiver.enabled.Lts as lts
-use Rattle.usart.proofs.receiver.Receiver.stopped.Reads as stopped-reads
 
 returns : tie.Need-returns
 unfolding enabledOf

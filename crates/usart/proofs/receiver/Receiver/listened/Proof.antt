@@ -3,9 +3,6 @@ use Rattle.usart.specs.Receiver.{listenedOf}
 use borrow.Author.Needs.{needs}
 use Rattle.usart.proofs.receiver.Receiver.listened.Statement.{statement}
 use Rattle.usart.proofs.receiver.Receiver.listened.Tie as tie
-use Rattle.usart.proofs.receiver.Receiver.listened.Reads as reads
-use Rattle.usart.proofs.receiver.Receiver.listened.Lts as lts
-use Rattle.usart.proofs.receiver.Receiver.tick.Reads as tick-reads
 
 tick-requires : tie.Need-tick-requires
 tick-requires c κs = search needs

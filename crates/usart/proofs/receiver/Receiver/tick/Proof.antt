@@ -1,10 +1,6 @@
 use borrow.Author.Needs.{needs}
 use Rattle.usart.proofs.receiver.Receiver.tick.Statement.{statement}
 use Rattle.usart.proofs.receiver.Receiver.tick.Tie as tie
-use Rattle.usart.proofs.receiver.Receiver.tick.Reads as reads
-use Rattle.usart.proofs.receiver.Receiver.tick.Lts as lts
-use Rattle.usart.proofs.receiver.put.Reads as put-reads
-use Rattle.usart.proofs.sampler.Sampler.tick.Reads as tick-reads
 
 tick-requires : tie.Need-tick-requires
 tick-requires c κs = search needs

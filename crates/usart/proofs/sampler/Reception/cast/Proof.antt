@@ -3,9 +3,6 @@ use Rattle.usart.specs.Sampler.{castOf}
 use borrow.Author.Needs.{needs}
 use Rattle.usart.proofs.sampler.Reception.cast.Statement.{statement}
 use Rattle.usart.proofs.sampler.Reception.cast.Tie as tie
-use Rattle.usart.proofs.sampler.Reception.cast.Reads as reads
-use Rattle.usart.proofs.sampler.Reception.cast.Lts as lts
-use Rattle.frame.proofs.format.Format.first_vote.Reads as first-vote-reads
 
 first-vote-requires : tie.Need-first-vote-requires
 first-vote-requires c κs = search needs

@@ -3,10 +3,6 @@ use Rattle.usart.specs.Sampler.{decidedOf}
 use borrow.Author.Needs.{needs}
 use Rattle.usart.proofs.sampler.Reception.decided.Statement.{statement}
 use Rattle.usart.proofs.sampler.Reception.decided.Tie as tie
-use Rattle.usart.proofs.sampler.Reception.decided.Reads as reads
-use Rattle.usart.proofs.sampler.Reception.decided.Lts as lts
-use Rattle.frame.proofs.format.Format.word_bits.Reads as word-bits-reads
-use Rattle.usart.proofs.sampler.Reception.shifted.Reads as shifted-reads
 
 returns : tie.Need-returns
 unfolding decidedOf

@@ -3,9 +3,6 @@ use Rattle.usart.specs.Sampler.{nextBitOf}
 use borrow.Author.Needs.{needs}
 use Rattle.usart.proofs.sampler.Reception.next_bit.Statement.{statement}
 use Rattle.usart.proofs.sampler.Reception.next_bit.Tie as tie
-use Rattle.usart.proofs.sampler.Reception.next_bit.Reads as reads
-use Rattle.usart.proofs.sampler.Reception.next_bit.Lts as lts
-use Rattle.frame.proofs.format.Format.word_bits.Reads as word-bits-reads
 
 word-bits-requires : tie.Need-word-bits-requires
 word-bits-requires c κs = search needs

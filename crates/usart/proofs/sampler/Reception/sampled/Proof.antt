@@ -3,11 +3,6 @@ use Rattle.usart.specs.Sampler.{sampledOf}
 use borrow.Author.Needs.{needs}
 use Rattle.usart.proofs.sampler.Reception.sampled.Statement.{statement}
 use Rattle.usart.proofs.sampler.Reception.sampled.Tie as tie
-use Rattle.usart.proofs.sampler.Reception.sampled.Reads as reads
-use Rattle.usart.proofs.sampler.Reception.sampled.Lts as lts
-use Rattle.frame.proofs.format.Format.samples.Reads as samples-reads
-use Rattle.usart.proofs.sampler.Reception.next_bit.Reads as next-bit-reads
-use Rattle.usart.proofs.sampler.Reception.voted.Reads as voted-reads
 
 samples-requires : tie.Need-samples-requires
 samples-requires c κs = search needs

@@ -3,9 +3,6 @@ use Rattle.usart.specs.Sampler.{shiftedOf}
 use borrow.Author.Needs.{needs}
 use Rattle.usart.proofs.sampler.Reception.shifted.Statement.{statement}
 use Rattle.usart.proofs.sampler.Reception.shifted.Tie as tie
-use Rattle.usart.proofs.sampler.Reception.shifted.Reads as reads
-use Rattle.usart.proofs.sampler.Reception.shifted.Lts as lts
-use Rattle.frame.proofs.format.Format.top.Reads as top-reads
 
 top-requires : tie.Need-top-requires
 top-requires c κs = search needs

@@ -3,12 +3,6 @@ use Rattle.usart.specs.Sampler.{votedOf}
 use borrow.Author.Needs.{needs}
 use Rattle.usart.proofs.sampler.Reception.voted.Statement.{statement}
 use Rattle.usart.proofs.sampler.Reception.voted.Tie as tie
-use Rattle.usart.proofs.sampler.Reception.voted.Reads as reads
-use Rattle.usart.proofs.sampler.Reception.voted.Lts as lts
-use Rattle.frame.proofs.format.Format.first_vote.Reads as first-vote-reads
-use Rattle.frame.proofs.majority.Reads as majority-reads
-use Rattle.usart.proofs.sampler.Reception.cast.Reads as cast-reads
-use Rattle.usart.proofs.sampler.Reception.decided.Reads as decided-reads
 
 majority-requires : tie.Need-majority-requires
 majority-requires c κs = search needs

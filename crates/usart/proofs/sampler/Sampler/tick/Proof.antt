@@ -2,10 +2,6 @@ use Rattle.usart.specs.Sampler.{samplerOf}
 use borrow.Author.Needs.{needs}
 use Rattle.usart.proofs.sampler.Sampler.tick.Statement.{statement}
 use Rattle.usart.proofs.sampler.Sampler.tick.Tie as tie
-use Rattle.usart.proofs.sampler.Sampler.tick.Reads as reads
-use Rattle.usart.proofs.sampler.Sampler.tick.Lts as lts
-use Rattle.usart.proofs.sampler.Reception.sampled.Reads as sampled-reads
-use Rattle.usart.proofs.sampler.idle.Reads as idle-reads
 
 enum-known-self : tie.Need-enum-known-self
 enum-known-self c = search needs

@@ -1,8 +1,6 @@
 use borrow.Author.Needs.{needs}
 use Rattle.usart.proofs.sender.Sender.filled.Statement.{statement}
 use Rattle.usart.proofs.sender.Sender.filled.Tie as tie
-use Rattle.usart.proofs.sender.Sender.filled.Reads as reads
-use Rattle.usart.proofs.sender.Sender.filled.Lts as lts
 
 enum-told : tie.Need-enum-told
 enum-told c = search needs

@@ -1,9 +1,6 @@
 use borrow.Author.Needs.{needs}
 use Rattle.usart.proofs.sender.Sender.moved.Statement.{statement}
 use Rattle.usart.proofs.sender.Sender.moved.Tie as tie
-use Rattle.usart.proofs.sender.Sender.moved.Reads as reads
-use Rattle.usart.proofs.sender.Sender.moved.Lts as lts
-use Rattle.frame.proofs.format.Format.word.Reads as word-reads
 
 enum-told : tie.Need-enum-told
 enum-told c = search needs

@@ -3,12 +3,6 @@ use Rattle.usart.specs.Sender.{steppedOf}
 use borrow.Author.Needs.{needs}
 use Rattle.usart.proofs.sender.Sender.stepped.Statement.{statement}
 use Rattle.usart.proofs.sender.Sender.stepped.Tie as tie
-use Rattle.usart.proofs.sender.Sender.stepped.Reads as reads
-use Rattle.usart.proofs.sender.Sender.stepped.Lts as lts
-use Rattle.frame.proofs.format.Format.last_bit.Reads as last-bit-reads
-use Rattle.frame.proofs.format.Format.samples.Reads as samples-reads
-use Rattle.usart.proofs.sender.Sender.at.Reads as at-reads
-use Rattle.usart.proofs.sender.Sender.moved.Reads as moved-reads
 
 samples-requires : tie.Need-samples-requires
 samples-requires c κs = search needs

@@ -3,10 +3,6 @@ use Rattle.usart.specs.Sender.{shiftedOn}
 use borrow.Author.Needs.{needs}
 use Rattle.usart.proofs.sender.Sender.tick.Statement.{statement}
 use Rattle.usart.proofs.sender.Sender.tick.Tie as tie
-use Rattle.usart.proofs.sender.Sender.tick.Reads as reads
-use Rattle.usart.proofs.sender.Sender.tick.Lts as lts
-use Rattle.usart.proofs.sender.Sender.moved.Reads as moved-reads
-use Rattle.usart.proofs.sender.Sender.stepped.Reads as stepped-reads
 
 enum-told : tie.Need-enum-told
 enum-told c = search needs

@@ -1,9 +1,6 @@
 use borrow.Author.Needs.{needs}
 use Rattle.usart.proofs.sender.Sender.txd.Statement.{statement}
 use Rattle.usart.proofs.sender.Sender.txd.Tie as tie
-use Rattle.usart.proofs.sender.Sender.txd.Reads as reads
-use Rattle.usart.proofs.sender.Sender.txd.Lts as lts
-use Rattle.frame.proofs.format.Format.bit_level.Reads as bit-level-reads
 
 enum-told : tie.Need-enum-told
 enum-told c = search needs

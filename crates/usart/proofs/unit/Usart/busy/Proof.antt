@@ -3,11 +3,6 @@ use Rattle.usart.specs.Unit.{isBusy}
 use borrow.Author.Needs.{needs}
 use Rattle.usart.proofs.unit.Usart.busy.Statement.{statement}
 use Rattle.usart.proofs.unit.Usart.busy.Tie as tie
-use Rattle.usart.proofs.unit.Usart.busy.Reads as reads
-use Rattle.usart.proofs.unit.Usart.busy.Lts as lts
-use Rattle.usart.proofs.sampler.Sampler.receiving.Reads as receiving-reads
-use Rattle.usart.proofs.sender.Sender.resting.Reads as resting-reads
-use Rattle.usart.proofs.sender.Sender.vacant.Reads as vacant-reads
 
 vacant-requires : tie.Need-vacant-requires
 vacant-requires c κs = search needs

@@ -3,10 +3,6 @@ use Rattle.choice.proofs.Picks.{picks}
 use borrow.Author.Needs.{needs}
 use Rattle.usart.proofs.unit.Usart.cleared.Statement.{statement}
 use Rattle.usart.proofs.unit.Usart.cleared.Tie as tie
-use Rattle.usart.proofs.unit.Usart.cleared.Reads as reads
-use Rattle.usart.proofs.unit.Usart.cleared.Lts as lts
-use Rattle.usart.proofs.sender.Sender.acknowledged.Reads as acknowledged-reads
-use Rattle.usart.proofs.unit.Usart.with_sender.Reads as with-sender-reads
 
 acknowledged-requires : tie.Need-acknowledged-requires
 acknowledged-requires c κs = search needs

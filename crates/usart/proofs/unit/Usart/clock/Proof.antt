@@ -3,11 +3,6 @@ use Rattle.usart.specs.Unit.{clockOf}
 use borrow.Author.Needs.{needs}
 use Rattle.usart.proofs.unit.Usart.clock.Statement.{statement}
 use Rattle.usart.proofs.unit.Usart.clock.Tie as tie
-use Rattle.usart.proofs.unit.Usart.clock.Reads as reads
-use Rattle.usart.proofs.unit.Usart.clock.Lts as lts
-use Rattle.usart.proofs.baud.Baud.next.Reads as next-reads
-use Rattle.usart.proofs.baud.Baud.ticks.Reads as ticks-reads
-use Rattle.usart.proofs.unit.Usart.ticked.Reads as ticked-reads
 
 ticks-requires : tie.Need-ticks-requires
 ticks-requires c κs = search needs

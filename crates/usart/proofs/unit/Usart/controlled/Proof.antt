@@ -1,9 +1,6 @@
 use borrow.Author.Needs.{needs}
 use Rattle.usart.proofs.unit.Usart.controlled.Statement.{statement}
 use Rattle.usart.proofs.unit.Usart.controlled.Tie as tie
-use Rattle.usart.proofs.unit.Usart.controlled.Reads as reads
-use Rattle.usart.proofs.unit.Usart.controlled.Lts as lts
-use Rattle.usart.proofs.receiver.Receiver.enabled.Reads as enabled-reads
 
 enabled-requires : tie.Need-enabled-requires
 enabled-requires c κs = search needs

@@ -3,10 +3,6 @@ use Rattle.usart.specs.Unit.{isDriven}
 use borrow.Author.Needs.{needs}
 use Rattle.usart.proofs.unit.Usart.driven.Statement.{statement}
 use Rattle.usart.proofs.unit.Usart.driven.Tie as tie
-use Rattle.usart.proofs.unit.Usart.driven.Reads as reads
-use Rattle.usart.proofs.unit.Usart.driven.Lts as lts
-use Rattle.usart.proofs.sender.Sender.resting.Reads as resting-reads
-use Rattle.usart.proofs.sender.Sender.vacant.Reads as vacant-reads
 
 returns : tie.Need-returns
 unfolding isDriven

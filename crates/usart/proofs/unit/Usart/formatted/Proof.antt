@@ -4,10 +4,6 @@ use Rattle.choice.proofs.Picks.{picks}
 use borrow.Author.Needs.{needs}
 use Rattle.usart.proofs.unit.Usart.formatted.Statement.{statement}
 use Rattle.usart.proofs.unit.Usart.formatted.Tie as tie
-use Rattle.usart.proofs.unit.Usart.formatted.Reads as reads
-use Rattle.usart.proofs.unit.Usart.formatted.Lts as lts
-use Rattle.usart.proofs.settings.settings.Reads as settings-reads
-use Rattle.usart.proofs.unit.Usart.with_format.Reads as with-format-reads
 
 settings-requires : tie.Need-settings-requires
 settings-requires c κs = search needs

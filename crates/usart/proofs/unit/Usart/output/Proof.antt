@@ -3,11 +3,6 @@ use Rattle.usart.specs.Unit.{outputOf}
 use borrow.Author.Needs.{needs}
 use Rattle.usart.proofs.unit.Usart.output.Statement.{statement}
 use Rattle.usart.proofs.unit.Usart.output.Tie as tie
-use Rattle.usart.proofs.unit.Usart.output.Reads as reads
-use Rattle.usart.proofs.unit.Usart.output.Lts as lts
-use Rattle.usart.proofs.sender.Sender.txd.Reads as txd-reads
-use Rattle.usart.proofs.unit.Usart.driven.Reads as driven-reads
-use Rattle.usart.proofs.unit.digit.Reads as digit-reads
 
 driven-requires : tie.Need-driven-requires
 driven-requires c κs = search needs

@@ -1,9 +1,6 @@
 use borrow.Author.Needs.{needs}
 use Rattle.usart.proofs.unit.Usart.popped.Statement.{statement}
 use Rattle.usart.proofs.unit.Usart.popped.Tie as tie
-use Rattle.usart.proofs.unit.Usart.popped.Reads as reads
-use Rattle.usart.proofs.unit.Usart.popped.Lts as lts
-use Rattle.usart.proofs.queue.Queue.taken.Reads as taken-reads
 
 taken-requires : tie.Need-taken-requires
 taken-requires c κs = search needs

@@ -1,15 +1,6 @@
 use borrow.Author.Needs.{needs}
 use Rattle.usart.proofs.unit.Usart.read.Statement.{statement}
 use Rattle.usart.proofs.unit.Usart.read.Tie as tie
-use Rattle.usart.proofs.unit.Usart.read.Reads as reads
-use Rattle.usart.proofs.unit.Usart.read.Lts as lts
-use Rattle.usart.proofs.unit.Usart.popped.Reads as popped-reads
-use Rattle.usart.proofs.unit.Usart.ubrr0h.Reads as ubrr0h-reads
-use Rattle.usart.proofs.unit.Usart.ubrr0l.Reads as ubrr0l-reads
-use Rattle.usart.proofs.unit.Usart.ucsr0a.Reads as ucsr0a-reads
-use Rattle.usart.proofs.unit.Usart.ucsr0b.Reads as ucsr0b-reads
-use Rattle.usart.proofs.unit.Usart.ucsr0c.Reads as ucsr0c-reads
-use Rattle.usart.proofs.unit.Usart.udr0.Reads as udr0-reads
 
 enum-told : tie.Need-enum-told
 enum-told c = search needs

@@ -1,12 +1,6 @@
 use borrow.Author.Needs.{needs}
 use Rattle.usart.proofs.unit.Usart.requests.Statement.{statement}
 use Rattle.usart.proofs.unit.Usart.requests.Tie as tie
-use Rattle.usart.proofs.unit.Usart.requests.Reads as reads
-use Rattle.usart.proofs.unit.Usart.requests.Lts as lts
-use Rattle.usart.proofs.unit.Usart.rxc_requested.Reads as rxc-requested-reads
-use Rattle.usart.proofs.unit.Usart.txc_requested.Reads as txc-requested-reads
-use Rattle.usart.proofs.unit.Usart.udre_requested.Reads as udre-requested-reads
-use Rattle.usart.proofs.unit.digit.Reads as digit-reads
 
 rxc-requested-requires : tie.Need-rxc-requested-requires
 rxc-requested-requires c κs = search needs

@@ -1,9 +1,6 @@
 use borrow.Author.Needs.{needs}
 use Rattle.usart.proofs.unit.Usart.reset.Statement.{statement}
 use Rattle.usart.proofs.unit.Usart.reset.Tie as tie
-use Rattle.usart.proofs.unit.Usart.reset.Reads as reads
-use Rattle.usart.proofs.unit.Usart.reset.Lts as lts
-use Rattle.usart.proofs.receiver.Receiver.stopped.Reads as stopped-reads
 
 stopped-requires : tie.Need-stopped-requires
 stopped-requires c κs = search needs

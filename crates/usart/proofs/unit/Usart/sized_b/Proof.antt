@@ -1,11 +1,6 @@
 use borrow.Author.Needs.{needs}
 use Rattle.usart.proofs.unit.Usart.sized_b.Statement.{statement}
 use Rattle.usart.proofs.unit.Usart.sized_b.Tie as tie
-use Rattle.usart.proofs.unit.Usart.sized_b.Reads as reads
-use Rattle.usart.proofs.unit.Usart.sized_b.Lts as lts
-use Rattle.usart.proofs.unit.Usart.busy.Reads as busy-reads
-use Rattle.usart.proofs.unit.Usart.controlled.Reads as controlled-reads
-use Rattle.usart.proofs.unit.Usart.formatted.Reads as formatted-reads
 
 controlled-requires : tie.Need-controlled-requires
 controlled-requires c κs = search needs

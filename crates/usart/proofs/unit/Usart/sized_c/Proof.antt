@@ -3,11 +3,6 @@ use Rattle.choice.proofs.Picks.{picks}
 use borrow.Author.Needs.{needs}
 use Rattle.usart.proofs.unit.Usart.sized_c.Statement.{statement}
 use Rattle.usart.proofs.unit.Usart.sized_c.Tie as tie
-use Rattle.usart.proofs.unit.Usart.sized_c.Reads as reads
-use Rattle.usart.proofs.unit.Usart.sized_c.Lts as lts
-use Rattle.usart.proofs.settings.parity_of.Reads as parity-of-reads
-use Rattle.usart.proofs.unit.Usart.busy.Reads as busy-reads
-use Rattle.usart.proofs.unit.Usart.formatted.Reads as formatted-reads
 
 parity-of-requires : tie.Need-parity-of-requires
 parity-of-requires c κs = search needs

@@ -4,11 +4,6 @@ use Rattle.usart.specs.Write.{vectorOf}
 use borrow.Author.Needs.{needs}
 use Rattle.usart.proofs.unit.Usart.take_vector.Statement.{statement}
 use Rattle.usart.proofs.unit.Usart.take_vector.Tie as tie
-use Rattle.usart.proofs.unit.Usart.take_vector.Reads as reads
-use Rattle.usart.proofs.unit.Usart.take_vector.Lts as lts
-use Rattle.usart.proofs.sender.Sender.acknowledged.Reads as acknowledged-reads
-use Rattle.usart.proofs.unit.Usart.txc_requested.Reads as txc-requested-reads
-use Rattle.usart.proofs.unit.Usart.with_sender.Reads as with-sender-reads
 
 txc-requested-requires : tie.Need-txc-requested-requires
 txc-requested-requires c κs = search needs

@@ -1,11 +1,6 @@
 use borrow.Author.Needs.{needs}
 use Rattle.usart.proofs.unit.Usart.ticked.Statement.{statement}
 use Rattle.usart.proofs.unit.Usart.ticked.Tie as tie
-use Rattle.usart.proofs.unit.Usart.ticked.Reads as reads
-use Rattle.usart.proofs.unit.Usart.ticked.Lts as lts
-use Rattle.usart.proofs.baud.Baud.next.Reads as next-reads
-use Rattle.usart.proofs.receiver.Receiver.listened.Reads as listened-reads
-use Rattle.usart.proofs.sender.Sender.tick.Reads as tick-reads
 
 tick-requires : tie.Need-tick-requires
 tick-requires c κs = search needs

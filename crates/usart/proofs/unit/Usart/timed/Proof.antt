@@ -3,10 +3,6 @@ use Rattle.choice.proofs.Picks.{picks}
 use borrow.Author.Needs.{needs}
 use Rattle.usart.proofs.unit.Usart.timed.Statement.{statement}
 use Rattle.usart.proofs.unit.Usart.timed.Tie as tie
-use Rattle.usart.proofs.unit.Usart.timed.Reads as reads
-use Rattle.usart.proofs.unit.Usart.timed.Lts as lts
-use Rattle.usart.proofs.unit.Usart.busy.Reads as busy-reads
-use Rattle.usart.proofs.unit.Usart.with_baud.Reads as with-baud-reads
 
 busy-requires : tie.Need-busy-requires
 busy-requires c κs = search needs

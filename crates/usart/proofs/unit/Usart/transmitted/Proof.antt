@@ -3,12 +3,6 @@ use Rattle.choice.proofs.Picks.{picks}
 use borrow.Author.Needs.{needs}
 use Rattle.usart.proofs.unit.Usart.transmitted.Statement.{statement}
 use Rattle.usart.proofs.unit.Usart.transmitted.Tie as tie
-use Rattle.usart.proofs.unit.Usart.transmitted.Reads as reads
-use Rattle.usart.proofs.unit.Usart.transmitted.Lts as lts
-use Rattle.frame.proofs.format.Format.masked.Reads as masked-reads
-use Rattle.usart.proofs.sender.Sender.filled.Reads as filled-reads
-use Rattle.usart.proofs.unit.Usart.with_sender.Reads as with-sender-reads
-use Rattle.usart.proofs.unit.digit.Reads as digit-reads
 
 digit-requires : tie.Need-digit-requires
 digit-requires c κs = search needs

@@ -1,12 +1,6 @@
 use borrow.Author.Needs.{needs}
 use Rattle.usart.proofs.unit.Usart.ucsr0a.Statement.{statement}
 use Rattle.usart.proofs.unit.Usart.ucsr0a.Tie as tie
-use Rattle.usart.proofs.unit.Usart.ucsr0a.Reads as reads
-use Rattle.usart.proofs.unit.Usart.ucsr0a.Lts as lts
-use Rattle.usart.proofs.queue.Queue.empty.Reads as empty-reads
-use Rattle.usart.proofs.queue.Queue.oldest.Reads as oldest-reads
-use Rattle.usart.proofs.sender.Sender.vacant.Reads as vacant-reads
-use Rattle.usart.proofs.unit.digit.Reads as digit-reads
 
 oldest-requires : tie.Need-oldest-requires
 oldest-requires c κs = search needs

@@ -1,11 +1,6 @@
 use borrow.Author.Needs.{needs}
 use Rattle.usart.proofs.unit.Usart.ucsr0b.Statement.{statement}
 use Rattle.usart.proofs.unit.Usart.ucsr0b.Tie as tie
-use Rattle.usart.proofs.unit.Usart.ucsr0b.Reads as reads
-use Rattle.usart.proofs.unit.Usart.ucsr0b.Lts as lts
-use Rattle.usart.proofs.queue.Queue.oldest.Reads as oldest-reads
-use Rattle.usart.proofs.settings.size_code.Reads as size-code-reads
-use Rattle.usart.proofs.unit.digit.Reads as digit-reads
 
 oldest-requires : tie.Need-oldest-requires
 oldest-requires c κs = search needs

@@ -1,9 +1,6 @@
 use borrow.Author.Needs.{needs}
 use Rattle.usart.proofs.unit.Usart.udr0.Statement.{statement}
 use Rattle.usart.proofs.unit.Usart.udr0.Tie as tie
-use Rattle.usart.proofs.unit.Usart.udr0.Reads as reads
-use Rattle.usart.proofs.unit.Usart.udr0.Lts as lts
-use Rattle.usart.proofs.queue.Queue.oldest.Reads as oldest-reads
 
 oldest-requires : tie.Need-oldest-requires
 oldest-requires c κs = search needs

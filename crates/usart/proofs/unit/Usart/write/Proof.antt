@@ -1,14 +1,6 @@
 use borrow.Author.Needs.{needs}
 use Rattle.usart.proofs.unit.Usart.write.Statement.{statement}
 use Rattle.usart.proofs.unit.Usart.write.Tie as tie
-use Rattle.usart.proofs.unit.Usart.write.Reads as reads
-use Rattle.usart.proofs.unit.Usart.write.Lts as lts
-use Rattle.usart.proofs.unit.Usart.transmitted.Reads as transmitted-reads
-use Rattle.usart.proofs.unit.Usart.write_ubrr0h.Reads as write-ubrr0h-reads
-use Rattle.usart.proofs.unit.Usart.write_ubrr0l.Reads as write-ubrr0l-reads
-use Rattle.usart.proofs.unit.Usart.write_ucsr0a.Reads as write-ucsr0a-reads
-use Rattle.usart.proofs.unit.Usart.write_ucsr0b.Reads as write-ucsr0b-reads
-use Rattle.usart.proofs.unit.Usart.write_ucsr0c.Reads as write-ucsr0c-reads
 
 enum-told : tie.Need-enum-told
 enum-told c = search needs

@@ -3,9 +3,6 @@ use Rattle.choice.proofs.Picks.{picks}
 use borrow.Author.Needs.{needs}
 use Rattle.usart.proofs.unit.Usart.write_ubrr0h.Statement.{statement}
 use Rattle.usart.proofs.unit.Usart.write_ubrr0h.Tie as tie
-use Rattle.usart.proofs.unit.Usart.write_ubrr0h.Reads as reads
-use Rattle.usart.proofs.unit.Usart.write_ubrr0h.Lts as lts
-use Rattle.usart.proofs.unit.Usart.timed.Reads as timed-reads
 
 returns : tie.Need-returns
 unfolding writeH

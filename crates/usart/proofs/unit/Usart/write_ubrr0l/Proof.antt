@@ -1,10 +1,6 @@
 use borrow.Author.Needs.{needs}
 use Rattle.usart.proofs.unit.Usart.write_ubrr0l.Statement.{statement}
 use Rattle.usart.proofs.unit.Usart.write_ubrr0l.Tie as tie
-use Rattle.usart.proofs.unit.Usart.write_ubrr0l.Reads as reads
-use Rattle.usart.proofs.unit.Usart.write_ubrr0l.Lts as lts
-use Rattle.usart.proofs.baud.Baud.loaded.Reads as loaded-reads
-use Rattle.usart.proofs.unit.Usart.timed.Reads as timed-reads
 
 mul-u : tie.Need-mul-u
 mul-u c = search needs

@@ -3,11 +3,6 @@ use Rattle.choice.proofs.Picks.{picks}
 use borrow.Author.Needs.{needs}
 use Rattle.usart.proofs.unit.Usart.write_ucsr0a.Statement.{statement}
 use Rattle.usart.proofs.unit.Usart.write_ucsr0a.Tie as tie
-use Rattle.usart.proofs.unit.Usart.write_ucsr0a.Reads as reads
-use Rattle.usart.proofs.unit.Usart.write_ucsr0a.Lts as lts
-use Rattle.usart.proofs.unit.Usart.busy.Reads as busy-reads
-use Rattle.usart.proofs.unit.Usart.cleared.Reads as cleared-reads
-use Rattle.usart.proofs.unit.Usart.formatted.Reads as formatted-reads
 
 returns : tie.Need-returns
 unfolding writeA

@@ -1,11 +1,6 @@
 use borrow.Author.Needs.{needs}
 use Rattle.usart.proofs.unit.Usart.write_ucsr0b.Statement.{statement}
 use Rattle.usart.proofs.unit.Usart.write_ucsr0b.Tie as tie
-use Rattle.usart.proofs.unit.Usart.write_ucsr0b.Reads as reads
-use Rattle.usart.proofs.unit.Usart.write_ucsr0b.Lts as lts
-use Rattle.usart.proofs.settings.size_code.Reads as size-code-reads
-use Rattle.usart.proofs.settings.size_of.Reads as size-of-reads
-use Rattle.usart.proofs.unit.Usart.sized_b.Reads as sized-b-reads
 
 mul-size-of : tie.Need-mul-size-of
 mul-size-of c = search needs

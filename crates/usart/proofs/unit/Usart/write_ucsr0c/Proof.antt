@@ -3,12 +3,6 @@ use Rattle.choice.proofs.Picks.{picks}
 use borrow.Author.Needs.{needs}
 use Rattle.usart.proofs.unit.Usart.write_ucsr0c.Statement.{statement}
 use Rattle.usart.proofs.unit.Usart.write_ucsr0c.Tie as tie
-use Rattle.usart.proofs.unit.Usart.write_ucsr0c.Reads as reads
-use Rattle.usart.proofs.unit.Usart.write_ucsr0c.Lts as lts
-use Rattle.usart.proofs.settings.size_code.Reads as size-code-reads
-use Rattle.usart.proofs.settings.size_of.Reads as size-of-reads
-use Rattle.usart.proofs.unit.Usart.sized_c.Reads as sized-c-reads
-use Rattle.usart.proofs.write.reserved_c.Reads as reserved-c-reads
 
 size-code-requires : tie.Need-size-code-requires
 size-code-requires c κs = search needs
