@@ -1,5 +1,7 @@
 use Rattle.usart.specs.Write.{clearedOf}
-use Rattle.choice.proofs.Picks.{picks}
+use mathlib.Core.Path.{refl}
+use borrow.Author.Tests.{eq-eqb, ne-eqb}
+use Rattle.choice.proofs.Picks.{pick-true, pick-false}
 use borrow.Author.Needs.{needs}
 use Rattle.usart.proofs.unit.Usart.cleared.Statement.{statement}
 use Rattle.usart.proofs.unit.Usart.cleared.Tie as tie
@@ -12,11 +14,11 @@ with-sender-requires c κs = search needs
 
 returns : tie.Need-returns
 unfolding clearedOf
-returns c = rw (c .with-sender .ensures, c .before .acknowledged .ensures) (search picks)
+returns c = pick-true _ _ _ _ (eq-eqb _ _ (c .before .before .if1 .taken)) (rw (c .with-sender .ensures, c .before .acknowledged .ensures))
 
 returns-2 : tie.Need-returns-2
 unfolding clearedOf
-returns-2 c = search picks
+returns-2 c = pick-false _ _ _ _ (ne-eqb _ _ (c .if1 .left)) refl
 
 pub cleared-spec : {M : Type 1} → statement M
 cleared-spec = tie.close (tie.spec acknowledged-requires with-sender-requires returns returns-2)
