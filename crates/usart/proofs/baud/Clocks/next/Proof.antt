@@ -1,4 +1,6 @@
-use Rattle.choice.proofs.Picks.{picks}
+use mathlib.Core.Path.{refl}
+use borrow.Author.Tests.{eq-eqb, ne-eqb}
+use Rattle.choice.proofs.Picks.{pick-true, pick-false}
 use Rattle.usart.specs.Baud.{leftOf}
 use borrow.Author.Needs.{needs}
 use Rattle.usart.proofs.baud.Clocks.next.Statement.{statement}
@@ -9,11 +11,11 @@ sub-t5 c = search needs
 
 returns : tie.Need-returns
 unfolding leftOf
-returns c = search picks
+returns c = (pick-true _ _ _ _ (eq-eqb _ _ (c .if1 .taken)) (refl))
 
 returns-2 : tie.Need-returns-2
 unfolding leftOf
-returns-2 c = search picks
+returns-2 c = (pick-false _ _ _ _ (ne-eqb _ _ (c .before .if1 .left)) (refl))
 
 pub next-spec : {M : Type 1} → statement M
 next-spec = tie.close (tie.spec sub-t5 returns returns-2)

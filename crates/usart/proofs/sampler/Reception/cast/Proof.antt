@@ -1,4 +1,6 @@
-use Rattle.choice.proofs.Picks.{picks}
+use mathlib.Core.Path.{refl}
+use borrow.Author.Tests.{eq-eqb, ne-eqb}
+use Rattle.choice.proofs.Picks.{pick-true, pick-false}
 use Rattle.usart.specs.Sampler.{castOf}
 use borrow.Author.Needs.{needs}
 use Rattle.usart.proofs.sampler.Reception.cast.Statement.{statement}
@@ -9,18 +11,18 @@ first-vote-requires c κs = search needs
 
 returns : tie.Need-returns
 unfolding castOf
-returns c = rw (← c .before .before .first-vote .ensures .0) (search picks)
+returns c = rw (← c .before .before .first-vote .ensures .0) (pick-true _ _ _ _ (eq-eqb _ _ (c .if1 .taken)) (refl))
 
 add-if2 : tie.Need-add-if2
 add-if2 c = search needs
 
 returns-2 : tie.Need-returns-2
 unfolding castOf
-returns-2 c = rw (← c .before .before .before .before .first-vote .ensures .0) (search picks)
+returns-2 c = rw (← c .before .before .before .before .first-vote .ensures .0) (pick-false _ _ _ _ (ne-eqb _ _ (c .before .before .if1 .left)) ((pick-true _ _ _ _ (eq-eqb _ _ (c .if2 .taken)) (refl))))
 
 returns-3 : tie.Need-returns-3
 unfolding castOf
-returns-3 c = rw (← c .before .before .before .before .first-vote .ensures .0) (search picks)
+returns-3 c = rw (← c .before .before .before .before .first-vote .ensures .0) (pick-false _ _ _ _ (ne-eqb _ _ (c .before .before .if1 .left)) ((pick-false _ _ _ _ (ne-eqb _ _ (c .if2 .left)) (refl))))
 
 pub cast-spec : {M : Type 1} → statement M
 cast-spec = tie.close (tie.spec first-vote-requires returns add-if2 returns-2 returns-3)

@@ -1,4 +1,6 @@
-use Rattle.choice.proofs.Picks.{picks}
+use mathlib.Core.Path.{refl}
+use borrow.Author.Tests.{lt-ltb, le-ltb}
+use Rattle.choice.proofs.Picks.{pick-true, pick-false}
 use Rattle.usart.specs.Sampler.{sampledOf}
 use borrow.Author.Needs.{needs}
 use Rattle.usart.proofs.sampler.Reception.sampled.Statement.{statement}
@@ -18,14 +20,14 @@ voted-requires c κs = search needs
 
 returns : tie.Need-returns
 unfolding sampledOf
-returns c = rw (← c .before .before .before .before .samples .ensures .0) (search picks)
+returns c = rw (← c .before .before .before .before .samples .ensures .0) (pick-true _ _ _ _ (lt-ltb _ _ (c .before .before .if1 .taken)) (c .voted .ensures))
 
 next-bit-requires : tie.Need-next-bit-requires
 next-bit-requires c κs = search needs
 
 returns-2 : tie.Need-returns-2
 unfolding sampledOf
-returns-2 c = rw (← c .before .before .before .samples .ensures .0, ← c .next-bit .ensures) (search picks)
+returns-2 c = rw (← c .before .before .before .samples .ensures .0, ← c .next-bit .ensures) (pick-false _ _ _ _ (le-ltb _ _ (c .before .if1 .left)) (refl))
 
 pub sampled-spec : {M : Type 1} → statement M
 sampled-spec =

@@ -1,4 +1,5 @@
-use Rattle.choice.proofs.Picks.{picks}
+use borrow.Author.Tests.{lt-ltb, le-ltb}
+use Rattle.choice.proofs.Picks.{pick-true, pick-false}
 use Rattle.usart.specs.Sender.{steppedOf}
 use borrow.Author.Needs.{needs}
 use Rattle.usart.proofs.sender.Sender.stepped.Statement.{statement}
@@ -18,7 +19,7 @@ at-requires c κs = search needs
 
 returns : tie.Need-returns
 unfolding steppedOf
-returns c = rw (← c .before .before .before .before .samples .ensures .0) (search picks)
+returns c = rw (← c .before .before .before .before .samples .ensures .0) (pick-true _ _ _ _ (lt-ltb _ _ (c .before .before .if1 .taken)) (c .at .ensures))
 
 last-bit-requires : tie.Need-last-bit-requires
 last-bit-requires c κs = search needs
@@ -31,14 +32,14 @@ at-requires-2 c κs = search needs
 
 returns-2 : tie.Need-returns-2
 unfolding steppedOf
-returns-2 c = rw (← c .before .before .before .before .before .before .before .samples .ensures .0, ← c .before .before .before .before .last-bit .ensures) (search picks)
+returns-2 c = rw (← c .before .before .before .before .before .before .before .samples .ensures .0, ← c .before .before .before .before .last-bit .ensures) (pick-false _ _ _ _ (le-ltb _ _ (c .before .before .before .before .before .if1 .left)) ((pick-true _ _ _ _ (lt-ltb _ _ (c .before .before .if2 .taken)) (c .at2 .ensures))))
 
 moved-requires : tie.Need-moved-requires
 moved-requires c κs = search needs
 
 returns-3 : tie.Need-returns-3
 unfolding steppedOf
-returns-3 c = rw (← c .before .before .before .before .before .before .samples .ensures .0, ← c .before .before .before .last-bit .ensures) (search picks)
+returns-3 c = rw (← c .before .before .before .before .before .before .samples .ensures .0, ← c .before .before .before .last-bit .ensures) (pick-false _ _ _ _ (le-ltb _ _ (c .before .before .before .before .if1 .left)) ((pick-false _ _ _ _ (le-ltb _ _ (c .before .if2 .left)) (c .moved .ensures))))
 
 pub stepped-spec : {M : Type 1} → statement M
 stepped-spec =

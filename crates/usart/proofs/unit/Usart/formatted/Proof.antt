@@ -1,6 +1,7 @@
+use mathlib.Core.Path.{refl}
 use borrow.Author.Tests.{eq-eqb, ne-eqb}
+use Rattle.choice.proofs.Picks.{pick-false}
 use Rattle.usart.specs.Write.{formattedOf}
-use Rattle.choice.proofs.Picks.{picks}
 use borrow.Author.Needs.{needs}
 use Rattle.usart.proofs.unit.Usart.formatted.Statement.{statement}
 use Rattle.usart.proofs.unit.Usart.formatted.Tie as tie
@@ -24,7 +25,7 @@ with-format-requires c κs = search needs
 
 returns-3 : tie.Need-returns-3
 unfolding formattedOf
-returns-3 c = rw (c .with-format .ensures) (search picks)
+returns-3 c = rw (c .with-format .ensures) (pick-false _ _ _ _ (c .before .if1 .left) (refl))
 
 pub formatted-spec : {M : Type 1} → statement M
 formatted-spec =

@@ -1,5 +1,6 @@
+use mathlib.Core.Path.{refl}
+use Rattle.choice.proofs.Picks.{pick-true, pick-false}
 use Rattle.usart.specs.Write.{timedOf}
-use Rattle.choice.proofs.Picks.{picks}
 use borrow.Author.Needs.{needs}
 use Rattle.usart.proofs.unit.Usart.timed.Statement.{statement}
 use Rattle.usart.proofs.unit.Usart.timed.Tie as tie
@@ -9,14 +10,14 @@ busy-requires c κs = search needs
 
 returns : tie.Need-returns
 unfolding timedOf
-returns c = rw (← c .before .busy .ensures) (search picks)
+returns c = rw (← c .before .busy .ensures) (pick-true _ _ _ _ (c .if1 .taken) (refl))
 
 with-baud-requires : tie.Need-with-baud-requires
 with-baud-requires c κs = search needs
 
 returns-2 : tie.Need-returns-2
 unfolding timedOf
-returns-2 c = rw (c .with-baud .ensures, ← c .before .before .busy .ensures) (search picks)
+returns-2 c = rw (c .with-baud .ensures, ← c .before .before .busy .ensures) (pick-false _ _ _ _ (c .before .if1 .left) (refl))
 
 pub timed-spec : {M : Type 1} → statement M
 timed-spec = tie.close (tie.spec busy-requires returns with-baud-requires returns-2)

@@ -1,5 +1,6 @@
+use mathlib.Core.Path.{refl}
+use Rattle.choice.proofs.Picks.{pick-true, pick-false}
 use Rattle.usart.specs.Write.{writeC}
-use Rattle.choice.proofs.Picks.{picks}
 use borrow.Author.Needs.{needs}
 use Rattle.usart.proofs.unit.Usart.write_ucsr0c.Statement.{statement}
 use Rattle.usart.proofs.unit.Usart.write_ucsr0c.Tie as tie
@@ -21,7 +22,7 @@ reserved-c-requires c κs = search needs
 
 returns : tie.Need-returns
 unfolding writeC
-returns c = rw (← c .before .reserved-c .ensures) (search picks)
+returns c = rw (← c .before .reserved-c .ensures) (pick-true _ _ _ _ (c .if1 .taken) (refl))
 
 enum-known-k : tie.Need-enum-known-k
 enum-known-k c = search needs
@@ -34,11 +35,11 @@ enum-told c = search needs
 
 returns-2 : tie.Need-returns-2
 unfolding writeC
-returns-2 c = rw (← c .before .before .before .before .before .reserved-c .ensures, ← c .before .before .before .before .before .before .before .size-code .ensures .0, ← c .before .before .before .before .before .before .size-of .ensures, c .before .before .k .given .1) (search picks)
+returns-2 c = rw (← c .before .before .before .before .before .reserved-c .ensures, ← c .before .before .before .before .before .before .before .size-code .ensures .0, ← c .before .before .before .before .before .before .size-of .ensures, c .before .before .k .given .1) (pick-false _ _ _ _ (c .before .before .before .before .if1 .left) (c .sized-c .ensures))
 
 returns-3 : tie.Need-returns-3
 unfolding writeC
-returns-3 c = rw (← c .before .before .before .reserved-c .ensures, ← c .before .before .before .before .before .size-code .ensures .0, ← c .before .before .before .before .size-of .ensures, c .enum-told .given .1) (search picks)
+returns-3 c = rw (← c .before .before .before .reserved-c .ensures, ← c .before .before .before .before .before .size-code .ensures .0, ← c .before .before .before .before .size-of .ensures, c .enum-told .given .1) (pick-false _ _ _ _ (c .before .before .if1 .left) (refl))
 
 pub write-ucsr0c-spec : {M : Type 1} → statement M
 write-ucsr0c-spec =
