@@ -1,0 +1,3 @@
+pub mod Order
+pub mod Edge
+pub mod Byte

@@ -1,0 +1,12 @@
+use borrow.Author.Needs.{needs}
+use Rattle.spi.proofs.unit.Spi.clock.Statement.{statement}
+use Rattle.spi.proofs.unit.Spi.clock.Tie as tie
+
+stepped-requires : tie.Need-stepped-requires
+stepped-requires c κs = search needs
+
+returns : tie.Need-returns
+returns c = rw (c .before .before .before .before .stepped .ensures)
+
+pub clock-spec : {M : Type 1} → statement M
+clock-spec = tie.close (tie.spec stepped-requires returns)

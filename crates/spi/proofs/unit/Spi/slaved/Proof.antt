@@ -1,0 +1,27 @@
+use Rattle.choice.proofs.Picks.{pick-true, pick-false}
+use Rattle.spi.specs.Clock.{slaveOf}
+use borrow.Author.Needs.{needs}
+use Rattle.spi.proofs.unit.Spi.slaved.Statement.{statement}
+use Rattle.spi.proofs.unit.Spi.slaved.Tie as tie
+
+dropped-requires : tie.Need-dropped-requires
+dropped-requires c κs = search needs
+
+with-transfer-requires : tie.Need-with-transfer-requires
+with-transfer-requires c κs = search needs
+
+returns : tie.Need-returns
+unfolding slaveOf
+returns c = (pick-true _ _ _ _ (c .before .before .if1 .taken) rw (c .with-transfer .ensures, c .before .dropped .ensures))
+
+selected-requires : tie.Need-selected-requires
+selected-requires c κs = search needs
+
+returns-2 : tie.Need-returns-2
+unfolding slaveOf
+returns-2 c = (pick-false _ _ _ _ (c .before .if1 .left) (c .selected .ensures))
+
+pub slaved-spec : {M : Type 1} → statement M
+slaved-spec =
+    tie.close
+    (tie.spec dropped-requires with-transfer-requires returns selected-requires returns-2)

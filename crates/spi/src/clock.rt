@@ -1,0 +1,253 @@
+use crate::divisor::Clocks;
+use crate::divisor::half;
+use crate::flag::Flags;
+use crate::transfer::Transfer;
+use crate::unit::Pins;
+use crate::unit::Spi;
+use crate::unit::differs;
+ghost use mathlib.Core.Path.{_≡_};
+ghost use Rattle.spi.specs.Clock.{raisedFlags, completedFlags, withLeft, withMiso, withTransfer, masterEdge, masterOf, faultOf, isEdge, presentedOf, slaveEdge, selectedOf, slaveOf, steppedOf, clockOf};
+
+// The levels of the pins at a clock.
+pub struct Levels {
+    pub miso: bool,
+    pub mosi: bool,
+    pub sck: bool,
+    pub ss: bool,
+}
+
+impl Flags {
+    fn raised(self) -> Flags
+        ensures { λ r. ⌜ r ≡ raisedFlags self ⌝ }
+    {
+        let a = self.spif;
+        let b = self.wcol;
+        Flags {
+            spif: a.raised(),
+            wcol: b,
+        }
+    }
+
+    fn completed(self, complete: bool) -> Flags
+        ensures { λ r. ⌜ r ≡ completedFlags self complete ⌝ }
+    {
+        if complete { self.raised() } else { self }
+    }
+}
+
+// Whether SCK has an edge that counts: the first of a byte must be a leading one.
+fn edge_seen(cpol: bool, edges: u8, last: bool, sck: bool) -> bool
+    ensures { λ r. ⌜ r ≡ isEdge cpol edges last sck ⌝ }
+{
+    if differs(sck, last) {
+        if edges == 0 {
+            return differs(sck, cpol);
+        }
+        return true;
+    }
+    false
+}
+
+impl Spi {
+    fn master_edge(self, miso: bool) -> Spi
+        ensures { λ r. ⌜ r ≡ masterEdge self miso ⌝ }
+    {
+        let c = self.control;
+        let p = self.pins;
+        let n = half(c.divisor_number());
+        let e = self.transfer.edged(c.mode(), p.mosi, miso, Clocks(n));
+        let t = e.transfer;
+        let f = self.flags.completed(e.complete);
+        Spi {
+            control: c,
+            transfer: t,
+            flags: f,
+            pins: Pins {
+                mosi: e.out,
+                miso: p.miso,
+                sck: p.sck,
+            },
+        }
+    }
+
+    fn with_left(self, n: Clocks) -> Spi
+        ensures { λ r. ⌜ r ≡ withLeft self n ⌝ }
+    {
+        let c = self.control;
+        let t = self.transfer;
+        let f = self.flags;
+        let p = self.pins;
+        let u = Transfer {
+            shift: t.shift,
+            received: t.received,
+            edges: t.edges,
+            left: n,
+        };
+        Spi {
+            control: c,
+            transfer: u,
+            flags: f,
+            pins: p,
+        }
+    }
+
+    // A clock of the master: its clocks to the next edge run down.
+    fn mastered(self, miso: bool) -> Spi
+        ensures { λ r. ⌜ r ≡ masterOf self miso ⌝ }
+    {
+        let n = self.transfer.left;
+        if n.0 == 0 {
+            return self;
+        }
+        if n.0 == 1 {
+            return self.master_edge(miso);
+        }
+        self.with_left(Clocks(n.0 - 1))
+    }
+
+    // A master that loses SS becomes a slave.
+    fn faulted(self) -> Spi
+        ensures { λ r. ⌜ r ≡ faultOf self ⌝ }
+    {
+        let p = self.pins;
+        Spi {
+            control: self.control.slave(),
+            transfer: self.transfer.dropped(),
+            flags: self.flags.raised(),
+            pins: p,
+        }
+    }
+
+    fn with_miso(self, miso: bool) -> Spi
+        ensures { λ r. ⌜ r ≡ withMiso self miso ⌝ }
+    {
+        let c = self.control;
+        let t = self.transfer;
+        let f = self.flags;
+        let p = self.pins;
+        Spi {
+            control: c,
+            transfer: t,
+            flags: f,
+            pins: Pins {
+                mosi: p.mosi,
+                miso: miso,
+                sck: p.sck,
+            },
+        }
+    }
+
+    // With CPHA 0 and no edge seen the slave shows the first bit.
+    fn presented(self) -> Spi
+        ensures { λ r. ⌜ r ≡ presentedOf self ⌝ }
+    {
+        let m = self.control.mode();
+        if m.cpha {
+            return self;
+        }
+        if self.transfer.edges == 0 {
+            return self.with_miso(m.out_bit(self.transfer.shift));
+        }
+        self
+    }
+
+    fn slave_edge(self, mosi: bool) -> Spi
+        ensures { λ r. ⌜ r ≡ slaveEdge self mosi ⌝ }
+    {
+        let c = self.control;
+        let p = self.pins;
+        let e = self.transfer.edged(c.mode(), p.miso, mosi, Clocks(0));
+        let t = e.transfer;
+        let f = self.flags.completed(e.complete);
+        Spi {
+            control: c,
+            transfer: t,
+            flags: f,
+            pins: Pins {
+                mosi: p.mosi,
+                miso: e.out,
+                sck: p.sck,
+            },
+        }
+    }
+
+    // A clock of the slave with SS low.
+    fn selected(self, l: Levels) -> Spi
+        ensures { λ r. ⌜ r ≡ selectedOf self l ⌝ }
+    {
+        let s = self.presented();
+        if edge_seen(
+            self.control.cpol(),
+            self.transfer.edges,
+            self.pins.sck,
+            l.sck,
+        ) {
+            return s.slave_edge(l.mosi);
+        }
+        s
+    }
+
+    pub fn with_transfer(self, t: Transfer) -> Spi
+        ensures { λ r. ⌜ r ≡ withTransfer self t ⌝ }
+    {
+        let c = self.control;
+        let f = self.flags;
+        let p = self.pins;
+        Spi {
+            control: c,
+            transfer: t,
+            flags: f,
+            pins: p,
+        }
+    }
+
+    // A clock of the slave: SS high drops a partial byte.
+    fn slaved(self, l: Levels) -> Spi
+        ensures { λ r. ⌜ r ≡ slaveOf self l ⌝ }
+    {
+        if l.ss {
+            return self.with_transfer(self.transfer.dropped());
+        }
+        self.selected(l)
+    }
+
+    fn stepped(self, l: Levels) -> Spi
+        ensures { λ r. ⌜ r ≡ steppedOf self l ⌝ }
+    {
+        let c = self.control;
+        if c.enabled() {
+            if c.master() {
+                if c.ss_input() {
+                    if l.ss {
+                        return self.mastered(l.miso);
+                    }
+                    return self.faulted();
+                }
+                return self.mastered(l.miso);
+            }
+            return self.slaved(l);
+        }
+        self
+    }
+
+    // One clock, with the levels of the pins; that of SCK is kept at every clock.
+    pub fn clock(self, l: Levels) -> Spi
+        ensures { λ r. ⌜ r ≡ clockOf self l ⌝ }
+    {
+        let s = self.stepped(l);
+        let c = s.control;
+        let t = s.transfer;
+        let f = s.flags;
+        let p = s.pins;
+        Spi {
+            control: c,
+            transfer: t,
+            flags: f,
+            pins: Pins {
+                mosi: p.mosi,
+                miso: p.miso,
+                sck: l.sck,
+            },
+        }
+    }
+}

@@ -1,0 +1,71 @@
+use shifter::Mode;
+ghost use mathlib.Core.Path.{_≡_};
+ghost use Rattle.spi.specs.Control.{isEnabled, isMaster, cpolOf, modeOf, numberOf, slaveOf, isInput};
+
+// SPCR, SPI2X of SPSR, and DDRB.
+pub struct Control {
+    pub spcr: u8,
+    pub spi2x: bool,
+    pub ddrb: u8,
+}
+
+impl Control {
+    // SPE.
+    pub fn enabled(self) -> bool
+        ensures { λ r. ⌜ r ≡ isEnabled self ⌝ }
+    {
+        self.spcr / 64 % 2 == 1
+    }
+
+    // MSTR.
+    pub fn master(self) -> bool
+        ensures { λ r. ⌜ r ≡ isMaster self ⌝ }
+    {
+        self.spcr / 16 % 2 == 1
+    }
+
+    // CPOL.
+    pub fn cpol(self) -> bool
+        ensures { λ r. ⌜ r ≡ cpolOf self ⌝ }
+    {
+        self.spcr / 8 % 2 == 1
+    }
+
+    // CPHA and DORD.
+    pub fn mode(self) -> Mode
+        ensures { λ r. ⌜ r ≡ modeOf self ⌝ }
+    {
+        Mode {
+            cpha: self.spcr / 4 % 2 == 1,
+            dord: self.spcr / 32 % 2 == 1,
+        }
+    }
+
+    // SPI2X, SPR1 and SPR0 as a number.
+    pub fn divisor_number(self) -> u8
+        ensures { λ r. ⌜ r ≡ numberOf self ⌝ }
+    {
+        if self.spi2x {
+            return 4 + self.spcr % 4;
+        }
+        self.spcr % 4
+    }
+
+    // MSTR cleared.
+    pub fn slave(self) -> Control
+        ensures { λ r. ⌜ r ≡ slaveOf self ⌝ }
+    {
+        Control {
+            spcr: self.spcr / 32 * 32 + self.spcr % 16,
+            spi2x: self.spi2x,
+            ddrb: self.ddrb,
+        }
+    }
+
+    // SS, bit 2 of DDRB, is an input.
+    pub fn ss_input(self) -> bool
+        ensures { λ r. ⌜ r ≡ isInput self ⌝ }
+    {
+        self.ddrb / 4 % 2 == 0
+    }
+}
