@@ -44,6 +44,16 @@ module _ (m : Mode) (r : Shifter) (k : ℕ) (i : Bool) where
   unfolding edgeOf
   puts h g = rw (h, g)
 
+  -- what is sampled at an edge is the bit that was out before it, and still is after it
+  pub out-kept : isSampling (m .cpha) k ≡ true → edgeOf m r k i .out ≡ r .out
+  out-kept h = ap (λ (x : Shifter). x .out) (samples h)
+
+  pub edge-lt : r .shift < 256 → edgeOf m r k i .shift < 256
+  unfolding edgeOf
+  edge-lt h =
+      pick-ind (λ (x : Shifter). x .shift < 256) (isSampling (m .cpha) k) _ _ (λ _. shifted-lt (m .dord) (r .shift) i h)
+      (λ _. pick-ind (λ (x : Shifter). x .shift < 256) (isPutting (m .cpha) k) _ _ (λ _. h) (λ _. h))
+
   kept : isSampling (m .cpha) k ≡ false → edgeOf m r k i .shift ≡ r .shift
   unfolding edgeOf
   kept h = rw h (pick-ind (λ (x : Shifter). x .shift ≡ r .shift) (isPutting (m .cpha) k) _ _ (λ _. refl) (λ _. refl))

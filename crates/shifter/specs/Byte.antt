@@ -1,5 +1,5 @@
 -- A whole byte: 16 edges, what is sampled at them and what is shown.
-use Prim.Native.Nat.{ℕ, _+_, _<_}
+use Prim.Native.Nat.{ℕ, zero, suc, _+_, _<_}
 use mathlib.Core.Bool.{Bool}
 use mathlib.Core.List.{List, [], _∷_}
 use mathlib.Core.Path.{_≡_}
@@ -31,3 +31,24 @@ pub record Exchanges (m : Mode) (r : Shifter) (is : List Bool) : Type 0 where
   pub shown : shownAt m r 0 is ≡ bitsOf (m .dord) (r .shift)
   pub taken : bitsOf (m .dord) (afterEdges m r 0 is .shift) ≡ sampledAt (m .cpha) 0 is
   pub byte : afterEdges m r 0 is .shift < 256
+
+-- two shift registers, each with the other's bit on its input
+pub record Joined : Type 0 where
+  pub master : Shifter
+  pub slave : Shifter
+
+-- edge k of both: the slave sees it after the master
+abbrev pub joinedEdge : Mode → Joined → ℕ → Joined
+joinedEdge m j k =
+    let a : Shifter = edgeOf m (j .master) k (j .slave .out) in
+    record { master = a; slave = edgeOf m (j .slave) k (a .out) }
+
+-- n edges after edge k
+abbrev pub joinedEdges : Mode → Joined → ℕ → ℕ → Joined
+joinedEdges m j k zero = j
+joinedEdges m j k (suc n) = joinedEdges m (joinedEdge m j (k + 1)) (k + 1) n
+
+-- after 16 edges each holds the other's byte
+pub record Swaps (m : Mode) (j : Joined) : Type 0 where
+  pub master : joinedEdges m j 0 16 .master .shift ≡ j .slave .shift
+  pub slave : joinedEdges m j 0 16 .slave .shift ≡ j .master .shift
