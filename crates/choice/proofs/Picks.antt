@@ -4,6 +4,7 @@
 use Prim.Native.Nat.{ℕ, _<_, _≤_}
 use mathlib.Core.Bool.{Bool, true, false}
 use mathlib.Core.Path.{_≡_, refl, sym, ap, subst, _∙_}
+use native.Mathlib.Omega.{arith}
 use lib.Dec.{ltb, leb}
 use borrow.Author.Tests.{not-true, not-false, eq-eqb, ne-eqb, lt-ltb, le-ltb, le-leb, lt-leb}
 use Rattle.choice.specs.Pick.{pick}
@@ -38,6 +39,16 @@ pick-ind P false a b f g = g refl
 pub pick-split : {A : Type 0} (P : Bool → A → Type 0) (t : Bool) (a b : A) → (t ≡ true → P true a) → (t ≡ false → P false b) → P t (pick t a b)
 pick-split P true a b f g = f refl
 pick-split P false a b f g = g refl
+
+-- a case of a test's two values, with the value at hand
+pub split : {P : Type 0} (b : Bool) → (b ≡ true → P) → (b ≡ false → P) → P
+split true f g = f refl
+split false f g = g refl
+
+-- both tests of a pair hold
+pub both : (a b : Bool) → pick a b false ≡ true → (a ≡ true) × (b ≡ true)
+both true b h = (refl, h)
+both false b h = absurd (let z : _≡_ {A = ℕ} 0 1 = cc in omega arith)
 
 pub ruleset picks =
     (not-true, not-false, flag-of, le-leb-of, lt-leb-of, pick-true, pick-false, lt-ltb-of, le-ltb-of, eq-eqb, ne-eqb, lt-ltb, le-ltb, le-leb, lt-leb)

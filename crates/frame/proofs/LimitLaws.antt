@@ -2,12 +2,13 @@
 use Prim.Native.Nat.{ℕ, zero, suc, _+_, _-_, _*_, _≤_, _<_}
 use mathlib.Core.Bool.{Bool, true, false}
 use mathlib.Core.List.{List, [], _∷_}
-use mathlib.Core.Path.{_≡_, refl, sym, subst}
+use mathlib.Core.Path.{_≡_, refl, subst}
 use native.Mathlib.Omega.{arith}
 use lib.Dec.{leb}
 use lib.ListN.{getD, length}
 use borrow.Author.Tests.{leb-true}
 use Rattle.choice.specs.Pick.{pick}
+use Rattle.choice.proofs.Picks.{both}
 use Rattle.frame.specs.Limit.{limits, limit}
 
 -- the test of a table whose first entry is for D
@@ -15,18 +16,11 @@ abbrev small : ℕ → List ℕ → Bool
 small D [] = true
 small D (r ∷ rs) = pick (leb ((D + 1) * r) 180) (small (suc D) rs) false
 
-first : (D r : ℕ) (rest : Bool) → pick (leb ((D + 1) * r) 180) rest false ≡ true → ((D + 1) * r ≤ 180) × (rest ≡ true)
-first D r rest e = by (leb ((D + 1) * r) 180) refl e
-  where
-    by : (t : Bool) → leb ((D + 1) * r) 180 ≡ t → pick t rest false ≡ true → ((D + 1) * r ≤ 180) × (rest ≡ true)
-    by true h g = (leb-true ((D + 1) * r) 180 h, g)
-    by false h g = let z : _≡_ {A = Bool} true false = sym g in absurd (let n : _≡_ {A = ℕ} 0 1 = cc in omega arith)
-
 entry : (D : ℕ) (rs : List ℕ) (i : ℕ) → small D rs ≡ true → i < length rs → (D + i + 1) * getD rs i 0 ≤ 180
 entry D [] i e h = absurd (omega arith)
-entry D (r ∷ rs) zero e h = omega (arith, first D r (small (suc D) rs) e .0)
+entry D (r ∷ rs) zero e h = omega (arith, leb-true ((D + 1) * r) 180 (both (leb ((D + 1) * r) 180) (small (suc D) rs) e .0))
 entry D (r ∷ rs) (suc i) e h =
-    subst (λ (n : ℕ). (n + 1) * getD rs i 0 ≤ 180) (omega arith) (entry (suc D) rs i (first D r (small (suc D) rs) e .1) (omega arith))
+    subst (λ (n : ℕ). (n + 1) * getD rs i 0 ≤ 180) (omega arith) (entry (suc D) rs i (both (leb ((D + 1) * r) 180) (small (suc D) rs) e .1) (omega arith))
 
 pub limit-small : (u2x : Bool) (D : ℕ) → 5 ≤ D → D ≤ 10 → (D + 1) * limit u2x D ≤ 180
 limit-small u2x D lo hi = subst (λ (d : ℕ). (d + 1) * limit u2x D ≤ 180) (omega arith) (by u2x)

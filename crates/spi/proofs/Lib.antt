@@ -1,0 +1,3 @@
+pub mod DivisorLaws
+pub mod ClockLaws
+pub mod WholeByte

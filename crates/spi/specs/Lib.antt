@@ -5,3 +5,4 @@ pub mod Transfer
 pub mod Unit
 pub mod Clock
 pub mod Register
+pub mod Run
