@@ -1,3 +1,4 @@
 pub mod DivisorLaws
 pub mod ClockLaws
 pub mod WholeByte
+pub mod Transfers

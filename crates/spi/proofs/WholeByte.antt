@@ -53,27 +53,31 @@ module _ (c : Control) (on : isEnabled c ≡ true) where
 
     pub at-waits : edgeAt s (l .sck) ≡ false → At (clockOf s l) k r x f × (outOf (clockOf s l) ≡ r .out)
     at-waits e =
-        let w = waits s l enabled keeps e in
-        (record {
-          control = w .control ∙ a .control;
-          edges = w .edges ∙ a .edges;
-          view = w .view ∙ a .view;
-          received = w .received ∙ a .received;
-          flags = w .flags ∙ a .flags;
-        }, w .out ∙ ap (λ (v : Shifter). v .out) (a .view))
+        let w = waits s l enabled keeps e in (
+          record {
+            control = w .control ∙ a .control;
+            edges = w .edges ∙ a .edges;
+            view = w .view ∙ a .view;
+            received = w .received ∙ a .received;
+            flags = w .flags ∙ a .flags;
+          },
+          w .out ∙ ap (λ (v : Shifter). v .out) (a .view),
+        )
 
     pub at-goes : edgeAt s (l .sck) ≡ true → k < 15 → At (clockOf s l) (k + 1) (edged r (k + 1) l) x f × (outOf (clockOf s l) ≡ edged r (k + 1) l .out)
     at-goes e h =
         let w = goes-on s l enabled keeps e (subst (λ (n : ℕ). n < 15) (sym (a .edges)) h) in
         let q : edgeOf (modeOf (s .control)) (viewOf s) (s .transfer .edges + 1) (inputOf (s .control) l) ≡ edged r (k + 1) l =
-        edged-same (s .transfer .edges + 1) ∙ ap (λ (n : ℕ). edged r (n + 1) l) (a .edges) in
-        (record {
-          control = w .control ∙ a .control;
-          edges = w .edges ∙ ap (λ (n : ℕ). n + 1) (a .edges);
-          view = w .view ∙ q;
-          received = w .received ∙ a .received;
-          flags = w .flags ∙ a .flags;
-        }, w .out ∙ ap (λ (v : Shifter). v .out) q)
+        edged-same (s .transfer .edges + 1) ∙ ap (λ (n : ℕ). edged r (n + 1) l) (a .edges) in (
+          record {
+            control = w .control ∙ a .control;
+            edges = w .edges ∙ ap (λ (n : ℕ). n + 1) (a .edges);
+            view = w .view ∙ q;
+            received = w .received ∙ a .received;
+            flags = w .flags ∙ a .flags;
+          },
+          w .out ∙ ap (λ (v : Shifter). v .out) q,
+        )
 
     pub at-ends : edgeAt s (l .sck) ≡ true → k ≡ 15 → Ended s (clockOf s l) (edged r 16 l)
     at-ends e h = subst (λ (v : Shifter). Ended s (clockOf s l) v) (edged-same 16) (ends s l enabled keeps e (a .edges ∙ h))
@@ -178,7 +182,7 @@ idle-of t e l = rw (eq-eqb (t .edges) 0 e, eq-eqb (t .left .0) 0 l)
 
 -- any byte, from no edge seen
 pub exchanges : (s : Spi) (ls : List Levels) → isEnabled (s .control) ≡ true → isKept (s .control) ls ≡ true → s .transfer .edges ≡ 0
-    → s .transfer .shift < 256 → Presented (modeOf (s .control)) (viewOf s) → isUpTo 16 s ls ≡ true → Exchanges s ls
+    → s .transfer .shift < 256 → Presented (modeOf (s .control)) (viewOf s) → isUpTo 16 s ls ≡ true → Exchanges (modeOf (s .control)) s (s .transfer .shift) ls
 exchanges s ls on kp e0 b pr u =
     let c : Control = s .control in
     let a : At c on s 0 (viewOf s) (s .transfer .received) (s .flags) = record { control = refl; edges = e0; view = refl; received = refl; flags = refl } in
@@ -188,9 +192,11 @@ exchanges s ls on kp e0 b pr u =
       sent = w .sent ∙ x .shown;
       taken = ap (bitsOf (modeOf c .dord)) (w .received) ∙ x .taken;
       byte = subst (λ (n : ℕ). n < 256) (sym (w .received)) (x .byte);
-      flags = w .flags;
+      flags = record {
+        spif = w .flags;
+        before = λ xs y ys q.
+            before c on xs y ys s 0 16 (viewOf s) (s .transfer .received) (s .flags) a (subst (λ (zs : List Levels). isKept c zs ≡ true) q kp) refl
+            (subst (λ (zs : List Levels). isUpTo 16 s zs ≡ true) q u);
+      };
       idle = idle-of (finalOf s ls .transfer) (w .edges) (w .left);
-      before = λ xs y ys q.
-          before c on xs y ys s 0 16 (viewOf s) (s .transfer .received) (s .flags) a (subst (λ (zs : List Levels). isKept c zs ≡ true) q kp) refl
-          (subst (λ (zs : List Levels). isUpTo 16 s zs ≡ true) q u);
     }

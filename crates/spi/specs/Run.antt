@@ -7,7 +7,8 @@ use lib.Dec.{eqb}
 use Rattle.choice.specs.Pick.{pick}
 use Rattle.shifter.specs.Order.{bitsOf}
 use Rattle.shifter.specs.Byte.{sampledAt}
-use Rattle.spi.specs.Control.{isEnabled, isMaster, cpolOf, modeOf, isInput}
+use Rattle.shifter.specs.declared.Mode.{Mode}
+use Rattle.spi.specs.Control.{isEnabled, isMaster, cpolOf, isInput}
 use Rattle.spi.specs.Transfer.{isUnderWay}
 use Rattle.spi.specs.Clock.{raisedFlags, isEdge, clockOf}
 use Rattle.spi.specs.declared.clock.Levels.{Levels}
@@ -52,16 +53,20 @@ isUpTo n s [] = eqb n 0
 isUpTo zero s (l ∷ ls) = false
 isUpTo (suc n) s (l ∷ ls) = pick (edgeAt s (l .sck)) (isUpTo n (clockOf s l) ls) (isUpTo (suc n) (clockOf s l) ls)
 
--- a whole byte out and a whole one in: who samples at the sampling edges gets the byte that was in the shift register; the receive buffer
--- gets what was on the input at these edges; SPIF is set at the last clock, and until then flags and receive buffer are as before
-pub record Exchanges (s : Spi) (ls : List Levels) : Type 0 where
-  pub sent : sampledAt (modeOf (s .control) .cpha) 0 (outsAt s ls) ≡ bitsOf (modeOf (s .control) .dord) (s .transfer .shift)
-  pub taken : bitsOf (modeOf (s .control) .dord) (finalOf s ls .transfer .received) ≡ sampledAt (modeOf (s .control) .cpha) 0 (inputsAt s ls)
-  pub byte : finalOf s ls .transfer .received < 256
-  pub flags : finalOf s ls .flags ≡ raisedFlags (s .flags)
-  pub idle : isUnderWay (finalOf s ls .transfer) ≡ false
+-- SPIF is set at the last clock, and until then flags and receive buffer are as before
+pub record SetsSpif (s : Spi) (ls : List Levels) : Type 0 where
+  pub spif : finalOf s ls .flags ≡ raisedFlags (s .flags)
   pub before : (xs : List Levels) (y : Levels) (ys : List Levels) → ls ≡ xs ++ (y ∷ ys)
       → (finalOf s xs .flags ≡ s .flags) × (finalOf s xs .transfer .received ≡ s .transfer .received)
+
+-- the byte v goes out and another comes in: who samples at the sampling edges gets v, and the receive buffer gets what was on the input at
+-- these edges
+pub record Exchanges (m : Mode) (s : Spi) (v : ℕ) (ls : List Levels) : Type 0 where
+  pub sent : sampledAt (m .cpha) 0 (outsAt s ls) ≡ bitsOf (m .dord) v
+  pub taken : bitsOf (m .dord) (finalOf s ls .transfer .received) ≡ sampledAt (m .cpha) 0 (inputsAt s ls)
+  pub byte : finalOf s ls .transfer .received < 256
+  pub flags : SetsSpif s ls
+  pub idle : isUnderWay (finalOf s ls .transfer) ≡ false
 
 -- a master that may start: enabled, none under way, a byte to send
 pub record MayStart (s : Spi) (v : ℕ) : Type 0 where

@@ -1,0 +1,144 @@
+-- The two transfers of the unit: a master's, whose edge k comes on the k·h-th clock, and a slave's, at any spacing of edges.
+use Prim.Native.Nat.{ℕ, zero, suc, _+_, _-_, _*_, _≤_, _<_}
+use mathlib.Core.Bool.{Bool, true, false}
+use mathlib.Core.List.{List, [], _∷_}
+use mathlib.Core.Path.{_≡_, refl, sym, ap, subst, _∙_}
+use native.Mathlib.Omega.{arith}
+use lib.Dec.{eqb, lit≤}
+use lib.ListN.{length}
+use borrow.Author.Tests.{eq-eqb, ne-eqb}
+use Rattle.choice.specs.Pick.{pick}
+use Rattle.choice.proofs.Picks.{pick-ind, split, both}
+use Rattle.shifter.specs.Order.{outBit}
+use Rattle.shifter.proofs.Byte.{Presented}
+use Rattle.spi.specs.Control.{isEnabled, isMaster, modeOf, numberOf, half}
+use Rattle.spi.specs.Divisor.{halfOf}
+use Rattle.spi.specs.Clock.{clockOf}
+use Rattle.spi.specs.Register.{filled, withMosi, startedOf, loadedOf, accessed, writeSpdr}
+use Rattle.spi.specs.Run.{isKept, edgeAt, isUpTo, SetsSpif, Exchanges, MayStart, MayTake}
+use Rattle.spi.specs.declared.clock.Levels.{Levels}
+use Rattle.spi.specs.declared.control.Control.{Control}
+use Rattle.spi.specs.declared.divisor.Clocks.{Clocks}
+use Rattle.spi.specs.declared.unit.Spi.{Spi}
+use Rattle.spi.proofs.DivisorLaws.{half-of}
+use Rattle.spi.proofs.ClockLaws.{keptAt, viewOf, clock-waits, clock-onward}
+use Rattle.spi.proofs.WholeByte.{exchanges}
+
+module _ (c : Control) (on : isEnabled c ≡ true) (ms : isMaster c ≡ true) where
+  -- k edges into a byte, the next one due in j clocks
+  pub record Due (s : Spi) (k j : ℕ) : Type 0 where
+    pub control : s .control ≡ c
+    pub edges : s .transfer .edges ≡ k
+    pub left : s .transfer .left .0 ≡ j
+
+  pub due-edge : (s : Spi) (k j : ℕ) (sck : Bool) → Due s k j → edgeAt s sck ≡ eqb j 1
+  due-edge s k j sck d = rw (ap isMaster (d .control) ∙ ms, d .left)
+
+  pub due-waits : (s : Spi) (l : Levels) (k j : ℕ) → Due s k (suc (suc j)) → keptAt c l ≡ true → Due (clockOf s l) k (suc j)
+  due-waits s l k j d kp =
+      let e : edgeAt s (l .sck) ≡ false = due-edge s k (suc (suc j)) (l .sck) d ∙ ne-eqb (suc (suc j)) 1 (λ q. omega arith) in
+      let m : isMaster (s .control) ≡ true = ap isMaster (d .control) ∙ ms in
+      let w = clock-waits s l (ap isEnabled (d .control) ∙ on) (ap (λ (x : Control). keptAt x l) (d .control) ∙ kp) e in
+      let one : s .transfer .left .0 - 1 ≡ suc j = omega (arith, d .left) in
+      subst (λ (t : Spi). Due t k (suc j)) (sym w)
+      (record {
+        control = d .control;
+        edges = d .edges;
+        left = ap (λ (b : Bool). pick b (record { 0 = s .transfer .left .0 - 1 }) (s .transfer .left) .0) m ∙ one;
+      })
+
+  pub due-goes : (s : Spi) (l : Levels) (k : ℕ) → Due s k 1 → keptAt c l ≡ true → k < 15 → Due (clockOf s l) (k + 1) (half c)
+  due-goes s l k d kp h =
+      let e : edgeAt s (l .sck) ≡ true = due-edge s k 1 (l .sck) d in
+      let m : isMaster (s .control) ≡ true = ap isMaster (d .control) ∙ ms in
+      let w = clock-onward s l (ap isEnabled (d .control) ∙ on) (ap (λ (x : Control). keptAt x l) (d .control) ∙ kp) e (subst (λ (n : ℕ). n < 15) (sym (d .edges)) h) in
+      subst (λ (t : Spi). Due t (k + 1) (half c)) (sym w)
+      (record {
+        control = d .control;
+        edges = ap (λ (n : ℕ). n + 1) (d .edges);
+        left =
+            ap (λ (b : Bool). pick {A = Clocks} b (record { 0 = half (s .control) }) (record { 0 = 0 }) .0) m ∙ ap half (d .control);
+      })
+
+  half-pos : 1 ≤ half c
+  half-pos = half-of (numberOf c) .low
+
+  edge-after : (ls : List Levels) (s : Spi) (k n j : ℕ) → Due s k (suc j) → isKept c ls ≡ true → k + suc n ≤ 16 → length ls ≡ suc j + n * half c
+      → isUpTo (suc n) s ls ≡ true
+  edge-after [] s k n j d kp h e = absurd (omega arith)
+  edge-after (l ∷ ls) s k n (suc j) d kp h e =
+      let p = both (keptAt c l) (isKept c ls) kp in
+      let x : edgeAt s (l .sck) ≡ false = due-edge s k (suc (suc j)) (l .sck) d ∙ ne-eqb (suc (suc j)) 1 (λ q. omega arith) in
+      rw x (edge-after ls (clockOf s l) k n j (due-waits s l k j d (p .0)) (p .1) h (omega arith))
+  edge-after (l ∷ []) s k zero zero d kp h e = rw (due-edge s k 1 (l .sck) d) refl
+  edge-after (l ∷ m ∷ ls) s k zero zero d kp h e = absurd (omega arith)
+  edge-after (l ∷ ls) s k (suc n) zero d kp h e =
+      let p = both (keptAt c l) (isKept c ls) kp in
+      let g : half c ≡ suc (half c - 1) = omega (arith, half-pos) in
+      rw (due-edge s k 1 (l .sck) d)
+      (edge-after ls (clockOf s l) (k + 1) n (half c - 1) (subst (λ (i : ℕ). Due (clockOf s l) (k + 1) i) g (due-goes s l k d (p .0) (omega arith))) (p .1) (omega arith)
+      (omega (arith, half-pos)))
+
+-- what writing SPDR starts
+pub record Begun (s : Spi) (v : ℕ) (t : Spi) : Type 0 where
+  pub control : t .control ≡ s .control
+  pub edges : t .transfer .edges ≡ 0
+  pub left : t .transfer .left .0 ≡ half (s .control)
+  pub shift : t .transfer .shift ≡ v
+  pub presented : Presented (modeOf (s .control)) (viewOf t)
+
+started : (s : Spi) (v : ℕ) → isMaster (s .control) ≡ true → Begun s v (startedOf s v)
+unfolding startedOf
+started s v m =
+    pick-ind (λ (t : Spi). Begun s v t) (modeOf (s .control) .cpha) _ _
+    (λ e. record {
+      control = refl;
+      edges = refl;
+      left = refl;
+      shift = refl;
+      presented = λ q. absurd (let z : _≡_ {A = ℕ} 0 1 = cc in omega arith);
+    })
+    (λ e. record { control = refl; edges = refl; left = refl; shift = refl; presented = λ q. rw m })
+
+pub begun : (s : Spi) (v : ℕ) → MayStart s v → Begun s v (writeSpdr s v)
+unfolding loadedOf
+begun s v m =
+    let w : loadedOf (accessed s) v ≡ startedOf (accessed s) v = rw (m .idle, m .enabled, m .master) in
+    let b : Begun (accessed s) v (startedOf (accessed s) v) = started (accessed s) v (m .master) in
+    subst (λ (t : Spi). Begun s v t) (sym w)
+    (record { control = b .control; edges = b .edges; left = b .left; shift = b .shift; presented = b .presented })
+
+module _ (s : Spi) (v : ℕ) (ls : List Levels) (m : MayStart s v) (kp : isKept (s .control) ls ≡ true) where
+  -- edge n of SCK comes on the n·h-th clock after the write, n from 1 to 16
+  pub edge-times : (n : ℕ) → 1 ≤ n → n ≤ 16 → length ls ≡ n * half (s .control) → isUpTo n (writeSpdr s v) ls ≡ true
+  edge-times zero lo hi e = absurd (omega arith)
+  edge-times (suc n) lo hi e =
+      let c : Control = s .control in
+      let h1 : 1 ≤ half c = half-of (numberOf c) .low in
+      let b : Begun s v (writeSpdr s v) = begun s v m in
+      let d : Due c (m .enabled) (m .master) (writeSpdr s v) 0 (suc (half c - 1)) =
+      record { control = b .control; edges = b .edges; left = b .left ∙ omega (arith, h1) } in
+      edge-after c (m .enabled) (m .master) ls (writeSpdr s v) 0 n (half c - 1) d kp (omega arith) (omega (arith, h1))
+
+  -- a whole master transfer: SPIF on the 16·h-th clock
+  pub master-exchanges : length ls ≡ 16 * half (s .control) → Exchanges (modeOf (s .control)) (writeSpdr s v) v ls
+  master-exchanges e =
+      let t : Spi = writeSpdr s v in
+      let b : Begun s v t = begun s v m in
+      let c : t .control ≡ s .control = b .control in
+      let x : Exchanges (modeOf (t .control)) t (t .transfer .shift) ls = exchanges t ls (ap isEnabled c ∙ m .enabled) (ap (λ (d : Control). isKept d ls) c ∙ kp) (b .edges)
+      (subst (λ (n : ℕ). n < 256) (sym (b .shift)) (m .byte))
+      (subst (λ (d : Control). Presented (modeOf d) (viewOf t)) (sym c) (b .presented))
+      (edge-times 16 (lit≤ tt) (lit≤ tt) e) in
+      subst (λ (n : ℕ). Exchanges (modeOf (s .control)) t n ls) (b .shift) (subst (λ (d : Control). Exchanges (modeOf d) t (t .transfer .shift) ls) c x)
+
+  -- M7: divisor 2 is number 4, divisor 128 number 3
+  pub m7 : (numberOf (s .control) ≡ 4 → length ls ≡ 16 → SetsSpif (writeSpdr s v) ls) × (numberOf (s .control) ≡ 3 → length ls ≡ 1024 → SetsSpif (writeSpdr s v) ls)
+  m7 = (
+    λ n e. master-exchanges (e ∙ ap (λ (i : ℕ). 16 * halfOf i) (sym n)) .flags,
+    λ n e. master-exchanges (e ∙ ap (λ (i : ℕ). 16 * halfOf i) (sym n)) .flags,
+  )
+
+-- a whole slave transfer, at any spacing of edges, SS low throughout
+pub slave-exchanges : (s : Spi) (ls : List Levels) → MayTake s → isKept (s .control) ls ≡ true → isUpTo 16 s ls ≡ true → Exchanges (modeOf (s .control)) s (s .transfer .shift) ls
+slave-exchanges s ls m kp u = exchanges s ls (m .enabled) kp (m .idle) (m .byte) (λ q. rw (m .slave, q, eq-eqb (s .transfer .edges) 0 (m .idle))) u
