@@ -1,4 +1,5 @@
 pub mod DivisorLaws
 pub mod ClockLaws
+pub mod ValidLaws
 pub mod WholeByte
 pub mod Transfers

@@ -5,4 +5,5 @@ pub mod Transfer
 pub mod Unit
 pub mod Clock
 pub mod Register
+pub mod Valid
 pub mod Run

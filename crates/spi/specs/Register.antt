@@ -26,6 +26,11 @@ abbrev pub numberOf : Refusal → ℕ
 numberOf UnderWay = 4
 numberOf Unrequested = 8
 
+-- a refused access leaves the unit as it was
+abbrev pub settled : Spi → Written → Spi
+settled s (Done t) = t
+settled s (Refused r) = s
+
 abbrev pub withControl : Spi → Control → Spi
 withControl s c = record { control = c; transfer = s .transfer; flags = s .flags; pins = s .pins }
 

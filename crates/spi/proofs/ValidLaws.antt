@@ -1,0 +1,253 @@
+-- Every operation keeps the ranges, and reset has them.
+use Prim.Native.Nat.{ℕ, _+_, _/_, _%_, _≤_, _<_}
+use mathlib.Core.Bool.{Bool, true, false, not}
+use mathlib.Core.Path.{_≡_, refl, sym, ap, subst, _∙_}
+use native.Mathlib.Omega.{arith}
+use lib.Dec.{eqb, ltb, lit<}
+use borrow.Author.Tests.{eqb-true, eqb-false, ltb-true}
+use Rattle.choice.specs.Pick.{pick}
+use Rattle.choice.proofs.Picks.{pick-ind}
+use Rattle.shifter.specs.declared.Mode.{Mode}
+use Rattle.shifter.proofs.Byte.{edge-lt}
+use Rattle.spi.specs.Control.{isEnabled, isMaster, modeOf, numberOf, half, isInput}
+use Rattle.spi.specs.Control as control
+use Rattle.spi.specs.Divisor.{halfOf}
+use Rattle.spi.specs.Transfer.{isUnderWay, droppedOf, edgedOf}
+use Rattle.spi.specs.Unit.{resetSpi, differs, isRequested}
+use Rattle.spi.specs.Clock.{withTransfer, masterOf, faultOf, isEdge, selectedOf, slaveOf, steppedOf, clockOf}
+use Rattle.spi.specs.Register.{settled, writeSpcr, writeSpsr, filled, startedOf, loadedOf, accessed, setDdrb, writeOf, readOf, vectorOf}
+use Rattle.spi.specs.Valid.{ValidTransfer, Valid}
+use Rattle.spi.specs.declared.clock.Levels.{Levels}
+use Rattle.spi.specs.declared.control.Control.{Control}
+use Rattle.spi.specs.declared.divisor.Clocks.{Clocks}
+use Rattle.spi.specs.declared.transfer.Transfer.{Transfer}
+use Rattle.spi.specs.declared.transfer.Edged.{Edged}
+use Rattle.spi.specs.declared.unit.Spi.{Spi}
+use Rattle.spi.specs.declared.register.Register.{Register}
+use Rattle.spi.specs.declared.register.Register.the-variants.{Spcr, Spsr, Spdr, Ddrb}
+use Rattle.spi.specs.declared.register.Written.{Written}
+use Rattle.spi.proofs.DivisorLaws.{half-of}
+use Rattle.spi.proofs.ClockLaws.{presented-as}
+
+-- a transfer that is not under way fits any control
+valid-idle : (c : Control) (t : Transfer) → t .shift < 256 → t .received < 256 → t .edges ≡ 0 → t .left .0 ≡ 0 → ValidTransfer c t
+valid-idle c t hs hr e l = record {
+  shift = hs;
+  received = hr;
+  edges = omega arith;
+  left = omega arith;
+  disabled = λ _. (e, l);
+  slave = λ _. l;
+  due = λ _ _. e;
+}
+
+valid-dropped : (c d : Control) (t : Transfer) → ValidTransfer c t → ValidTransfer d (droppedOf t)
+valid-dropped c d t v = valid-idle d (droppedOf t) (v .shift) (v .received) refl refl
+
+-- an edge, with n clocks to the next one: some for a master, none for a slave
+valid-edged : (c : Control) (t : Transfer) (m : Mode) (out input : Bool) (n : Clocks) → isEnabled c ≡ true → n .0 ≤ half c → (isMaster c ≡ true → 1 ≤ n .0)
+    → (isMaster c ≡ false → n .0 ≡ 0) → ValidTransfer c t → ValidTransfer c (edgedOf t m out input n .transfer)
+unfolding edgedOf
+valid-edged c t m out input n on hn ms sl v =
+    pick-ind (λ (e : Edged). ValidTransfer c (e .transfer)) (ltb (t .edges) 15) _ _
+    (λ e. record {
+      shift = edge-lt m (record { shift = t .shift; out = out }) (t .edges + 1) input (v .shift);
+      received = v .received;
+      edges = omega (arith, ltb-true (t .edges) 15 e);
+      left = hn;
+      disabled = λ q. absurd (let z : _≡_ {A = ℕ} 0 1 = cc in omega arith);
+      slave = sl;
+      due = λ q z. absurd (omega (arith, ms q));
+    })
+    (λ e. let b = edge-lt m (record { shift = t .shift; out = out }) 16 input (v .shift) in valid-idle c _ b b refl refl)
+
+module _ (s : Spi) (on : isEnabled (s .control) ≡ true) (v : Valid s) where
+  valid-master : (miso : Bool) → isMaster (s .control) ≡ true → Valid (masterOf s miso)
+  unfolding masterOf
+  valid-master miso m =
+      let h1 : 1 ≤ half (s .control) = half-of (numberOf (s .control)) .low in
+      let c : Control = s .control in
+      pick-ind Valid (eqb (s .transfer .left .0) 0) _ _ (λ _. v)
+      (λ n0. pick-ind Valid (eqb (s .transfer .left .0) 1) _ _
+      (λ n1. record {
+        spcr = v .spcr;
+        ddrb = v .ddrb;
+        transfer =
+            valid-edged c (s .transfer) (modeOf c) (s .pins .mosi) miso (record { 0 = half c }) on (omega arith) (λ _. h1)
+            (λ q. absurd (let z : _≡_ {A = ℕ} 0 1 = cc in omega arith)) (v .transfer);
+      })
+      (λ n1. record {
+        spcr = v .spcr;
+        ddrb = v .ddrb;
+        transfer = record {
+          shift = v .transfer .shift;
+          received = v .transfer .received;
+          edges = v .transfer .edges;
+          left = omega (arith, v .transfer .left);
+          disabled = λ q. absurd (let z : _≡_ {A = ℕ} 0 1 = cc in omega arith);
+          slave = λ q. absurd (let z : _≡_ {A = ℕ} 0 1 = cc in omega arith);
+          due = λ q z. absurd (omega (arith, eqb-false (s .transfer .left .0) 0 n0, eqb-false (s .transfer .left .0) 1 n1));
+        };
+      }))
+
+  valid-selected : (l : Levels) → isMaster (s .control) ≡ false → Valid (selectedOf s l)
+  unfolding selectedOf
+  valid-selected l m =
+      let c : Control = s .control in
+      rw (presented-as s)
+      (pick-ind Valid (isEdge (control.cpolOf c) (s .transfer .edges) (s .pins .sck) (l .sck)) _ _
+      (λ _. record {
+        spcr = v .spcr;
+        ddrb = v .ddrb;
+        transfer =
+            valid-edged c (s .transfer) (modeOf c) _ (l .mosi) (record { 0 = 0 }) on (omega arith) (λ q. absurd (let z : _≡_ {A = ℕ} 0 1 = cc in omega arith))
+            (λ _. refl) (v .transfer);
+      })
+      (λ _. record { spcr = v .spcr; ddrb = v .ddrb; transfer = v .transfer }))
+
+  valid-faulted : Valid (faultOf s)
+  valid-faulted =
+      let b : s .control .spcr < 256 = v .spcr in
+      record { spcr = omega arith; ddrb = v .ddrb; transfer = valid-dropped (s .control) (control.slaveOf (s .control)) (s .transfer) (v .transfer) }
+
+valid-dropped-unit : (s : Spi) → Valid s → Valid (withTransfer s (droppedOf (s .transfer)))
+valid-dropped-unit s v = record { spcr = v .spcr; ddrb = v .ddrb; transfer = valid-dropped (s .control) (s .control) (s .transfer) (v .transfer) }
+
+valid-stepped : (s : Spi) (l : Levels) → Valid s → Valid (steppedOf s l)
+unfolding steppedOf slaveOf
+valid-stepped s l v =
+    pick-ind Valid (isEnabled (s .control)) _ _
+    (λ on. pick-ind Valid (isMaster (s .control)) _ _
+    (λ m. pick-ind Valid (isInput (s .control)) _ _
+    (λ _. pick-ind Valid (l .ss) _ _ (λ _. valid-master s on v (l .miso) m) (λ _. valid-faulted s on v)) (λ _. valid-master s on v (l .miso) m))
+    (λ m. pick-ind Valid (l .ss) _ _ (λ _. valid-dropped-unit s v) (λ _. valid-selected s on v l m)))
+    (λ _. v)
+
+pub valid-reset : Valid resetSpi
+valid-reset = record { spcr = lit< tt; ddrb = lit< tt; transfer = valid-idle (resetSpi .control) (resetSpi .transfer) (lit< tt) (lit< tt) refl refl }
+
+pub valid-clock : (s : Spi) (l : Levels) → Valid s → Valid (clockOf s l)
+valid-clock s l v = let w = valid-stepped s l v in record { spcr = w .spcr; ddrb = w .ddrb; transfer = w .transfer }
+
+none-under-way : (t : Transfer) → isUnderWay t ≡ false → (t .edges ≡ 0) × (t .left .0 ≡ 0)
+unfolding isUnderWay
+none-under-way t e = by (eqb (t .edges) 0) refl (eqb (t .left .0) 0) refl e
+  where
+    by : (a : Bool) → eqb (t .edges) 0 ≡ a → (b : Bool) → eqb (t .left .0) 0 ≡ b → pick a (not b) true ≡ false → (t .edges ≡ 0) × (t .left .0 ≡ 0)
+    by true ha true hb h = (eqb-true (t .edges) 0 ha, eqb-true (t .left .0) 0 hb)
+    by true ha false hb h = absurd (let z : _≡_ {A = ℕ} 0 1 = cc in omega arith)
+    by false ha b hb h = absurd (let z : _≡_ {A = ℕ} 0 1 = cc in omega arith)
+
+-- any control fits a transfer that is not under way
+valid-controlled : (s : Spi) (c : Control) → Valid s → isUnderWay (s .transfer) ≡ false → ValidTransfer c (s .transfer)
+valid-controlled s c v e =
+    let n = none-under-way (s .transfer) e in
+    valid-idle c (s .transfer) (v .transfer .shift) (v .transfer .received) (n .0) (n .1)
+
+-- SPCR with the same bits 5 to 0 and SPE set
+valid-same : (c : Control) (x : ℕ) (t : Transfer) → eqb (x / 64 % 2) 0 ≡ false → eqb (x % 64) (c .spcr % 64) ≡ true → ValidTransfer c t
+    → ValidTransfer (record { spcr = x; spi2x = c .spi2x; ddrb = c .ddrb }) t
+unfolding numberOf
+valid-same c x t on e v =
+    let low : x % 64 ≡ c .spcr % 64 = eqb-true (x % 64) (c .spcr % 64) e in
+    let m : x / 16 % 2 ≡ c .spcr / 16 % 2 = omega arith in
+    let r : x % 4 ≡ c .spcr % 4 = omega arith in
+    let one : x / 64 % 2 ≡ 1 = omega (arith, eqb-false (x / 64 % 2) 0 on) in
+    record {
+      shift = v .shift;
+      received = v .received;
+      edges = v .edges;
+      left = subst (λ (n : ℕ). t .left .0 ≤ halfOf (pick (c .spi2x) (4 + n) n)) (sym r) (v .left);
+      disabled = λ q. absurd (omega (arith, eqb-false (x / 64 % 2) 1 q));
+      slave = λ q. v .slave (ap (λ (n : ℕ). eqb n 1) (sym m) ∙ q);
+      due = λ q. v .due (ap (λ (n : ℕ). eqb n 1) (sym m) ∙ q);
+    }
+
+valid-spcr : (s : Spi) (x : ℕ) → x < 256 → Valid s → Valid (settled s (writeSpcr s x))
+unfolding writeSpcr
+valid-spcr s x h v =
+    let P : Written → Type 0 = λ w. Valid (settled s w) in
+    let c : Control = record { spcr = x; spi2x = s .control .spi2x; ddrb = s .control .ddrb } in
+    pick-ind P (isUnderWay (s .transfer)) _ _
+    (λ _. pick-ind P (eqb (x / 64 % 2) 0) _ _
+    (λ _. record { spcr = h; ddrb = v .ddrb; transfer = valid-dropped (s .control) c (s .transfer) (v .transfer) })
+    (λ on. pick-ind P (eqb (x % 64) (s .control .spcr % 64)) _ _
+    (λ e. record { spcr = h; ddrb = v .ddrb; transfer = valid-same (s .control) x (s .transfer) on e (v .transfer) }) (λ _. v)))
+    (λ e. record { spcr = h; ddrb = v .ddrb; transfer = valid-controlled s c v e })
+
+valid-spsr : (s : Spi) (x : ℕ) → Valid s → Valid (settled s (writeSpsr s x))
+unfolding writeSpsr
+valid-spsr s x v =
+    let P : Written → Type 0 = λ w. Valid (settled s w) in
+    pick-ind P (differs (eqb (x % 2) 1) (s .control .spi2x)) _ _
+    (λ _. pick-ind P (isUnderWay (s .transfer)) _ _ (λ _. v)
+    (λ e. record { spcr = v .spcr; ddrb = v .ddrb; transfer = valid-controlled s _ v e })) (λ _. v)
+
+valid-accessed : (s : Spi) → Valid s → Valid (accessed s)
+valid-accessed s v = record { spcr = v .spcr; ddrb = v .ddrb; transfer = v .transfer }
+
+-- the shift register filled, with n clocks to the first edge: some for a master, none for a slave
+valid-filled : (s : Spi) (x n : ℕ) → x < 256 → isEnabled (s .control) ≡ true → n ≤ half (s .control) → (isMaster (s .control) ≡ false → n ≡ 0) → Valid s
+    → Valid (filled s x n)
+valid-filled s x n h on hn sl v = record {
+  spcr = v .spcr;
+  ddrb = v .ddrb;
+  transfer = record {
+    shift = h;
+    received = v .transfer .received;
+    edges = lit< tt;
+    left = hn;
+    disabled = λ q. absurd (let z : _≡_ {A = ℕ} 0 1 = cc in omega arith);
+    slave = sl;
+    due = λ _ _. refl;
+  };
+}
+
+valid-loaded : (s : Spi) (x : ℕ) → x < 256 → Valid s → Valid (loadedOf s x)
+unfolding loadedOf startedOf
+valid-loaded s x h v =
+    pick-ind Valid (isUnderWay (s .transfer)) _ _ (λ _. record { spcr = v .spcr; ddrb = v .ddrb; transfer = v .transfer })
+    (λ _. pick-ind Valid (isEnabled (s .control)) _ _
+    (λ on. pick-ind Valid (isMaster (s .control)) _ _
+    (λ m. let f : Valid (filled s x (half (s .control))) =
+    valid-filled s x (half (s .control)) h on (omega arith) (λ q. absurd (let z : _≡_ {A = ℕ} 0 1 = cc in omega arith)) v in
+    pick-ind Valid (modeOf (s .control) .cpha) _ _ (λ _. f) (λ _. record { spcr = f .spcr; ddrb = f .ddrb; transfer = f .transfer }))
+    (λ m. valid-filled s x 0 h on (omega arith) (λ _. refl) v))
+    (λ _. v))
+
+-- the transfer does not look at DDRB
+valid-ddrb : (s : Spi) (x : ℕ) → x < 256 → Valid s → Valid (setDdrb s x)
+unfolding numberOf
+valid-ddrb s x h v =
+    let t : ValidTransfer (s .control) (s .transfer) = v .transfer in
+    record {
+      spcr = v .spcr;
+      ddrb = h;
+      transfer = record {
+        shift = t .shift;
+        received = t .received;
+        edges = t .edges;
+        left = t .left;
+        disabled = t .disabled;
+        slave = t .slave;
+        due = t .due;
+      };
+    }
+
+-- a written value is a byte
+pub valid-write : (s : Spi) (r : Register) (x : ℕ) → x < 256 → Valid s → Valid (settled s (writeOf s r x))
+valid-write s Spcr x h v = valid-spcr s x h v
+valid-write s Spsr x h v = valid-spsr s x v
+valid-write s Spdr x h v = valid-loaded (accessed s) x h (valid-accessed s v)
+valid-write s Ddrb x h v = valid-ddrb s x h v
+
+pub valid-read : (s : Spi) (r : Register) → Valid s → Valid (readOf s r .spi)
+valid-read s Spcr v = v
+valid-read s Spsr v = record { spcr = v .spcr; ddrb = v .ddrb; transfer = v .transfer }
+valid-read s Spdr v = valid-accessed s v
+valid-read s Ddrb v = v
+
+pub valid-vector : (s : Spi) → Valid s → Valid (settled s (vectorOf s))
+unfolding vectorOf
+valid-vector s v =
+    pick-ind (λ (w : Written). Valid (settled s w)) (isRequested s) _ _ (λ _. record { spcr = v .spcr; ddrb = v .ddrb; transfer = v .transfer }) (λ _. v)
