@@ -13,7 +13,8 @@ use Rattle.shifter.specs.declared.Shifter.{Shifter}
 use Rattle.spi.specs.Control.{isEnabled, isMaster, cpolOf, modeOf, half, isInput}
 use Rattle.spi.specs.Transfer.{droppedOf, onwardOf, completeOf, edgedOf}
 use Rattle.spi.specs.Clock.{raisedFlags, completedFlags, withLeft, withMiso, withTransfer, masterEdge, masterOf, faultOf, isEdge, presentedOf, slaveEdge, selectedOf, slaveOf, steppedOf, clockOf}
-use Rattle.spi.specs.Run.{edgeAt, inputOf, outOf}
+use Rattle.spi.specs.Event.{isKept}
+use Rattle.spi.specs.Exchange.{edgeAt, inputOf, outOf}
 use Rattle.spi.specs.declared.clock.Levels.{Levels}
 use Rattle.spi.specs.declared.control.Control.{Control}
 use Rattle.spi.specs.declared.divisor.Clocks.{Clocks}
@@ -21,10 +22,6 @@ use Rattle.spi.specs.declared.flag.Flags.{Flags}
 use Rattle.spi.specs.declared.transfer.Transfer.{Transfer}
 use Rattle.spi.specs.declared.transfer.Edged.{Edged}
 use Rattle.spi.specs.declared.unit.Spi.{Spi}
-
--- one clock's SS
-abbrev pub keptAt : Control → Levels → Bool
-keptAt c l = pick (isMaster c) (pick (isInput c) (l .ss) true) (not (l .ss))
 
 -- the unit with the level of SCK kept
 abbrev pub seen : Spi → Bool → Spi
@@ -39,6 +36,9 @@ shownMiso c t miso = pick (modeOf c .cpha) miso (pick (eqb (t .edges) 0) (outBit
 abbrev pub viewOf : Spi → Shifter
 viewOf s =
     record { shift = s .transfer .shift; out = pick (isMaster (s .control)) (s .pins .mosi) (shownMiso (s .control) (s .transfer) (s .pins .miso)) }
+
+pub view-same : (s t : Spi) → t .control ≡ s .control → t .transfer ≡ s .transfer → t .pins ≡ s .pins → viewOf t ≡ viewOf s
+view-same s t hc ht hp = rw (hc, ht, hp) refl
 
 pub presented-as : (s : Spi) → presentedOf s ≡ withMiso s (shownMiso (s .control) (s .transfer) (s .pins .miso))
 unfolding presentedOf
@@ -59,7 +59,7 @@ shown-within c t k miso e = rw (ne-eqb (t .edges) 0 (λ q. omega arith)) (by (mo
     by true = refl
     by false = refl
 
-module _ (s : Spi) (l : Levels) (on : isEnabled (s .control) ≡ true) (kept : keptAt (s .control) l ≡ true) where
+module _ (s : Spi) (l : Levels) (on : isEnabled (s .control) ≡ true) (kept : isKept (s .control) l ≡ true) where
   stepped-master : isMaster (s .control) ≡ true → steppedOf s l ≡ masterOf s (l .miso)
   unfolding steppedOf
   stepped-master m = rw (on, m) (by (masterOf s (l .miso)) (faultOf s) (isInput (s .control)) (l .ss) (sym (ap (λ (b : Bool). pick b (pick (isInput (s .control)) (l .ss) true) (not (l .ss))) m) ∙ kept))
@@ -154,7 +154,7 @@ edged-last : (t : Transfer) (m : Mode) (out input : Bool) (n : Clocks) → t .ed
 unfolding edgedOf
 edged-last t m out input n h = rw (le-ltb (t .edges) 15 (omega arith))
 
-module _ (s : Spi) (l : Levels) (on : isEnabled (s .control) ≡ true) (kept : keptAt (s .control) l ≡ true) where
+module _ (s : Spi) (l : Levels) (on : isEnabled (s .control) ≡ true) (kept : isKept (s .control) l ≡ true) where
   pub clock-waits : edgeAt s (l .sck) ≡ false → clockOf s l ≡ waitedAs s (l .sck)
   clock-waits e = by (isMaster (s .control)) refl
     where
@@ -238,7 +238,7 @@ edged-view s e k sck h = ap (λ (b : Bool). record { shift = e .transfer .shift;
     by true = refl
     by false = shown-within (s .control) (e .transfer) k (e .out) h
 
-module _ (s : Spi) (l : Levels) (on : isEnabled (s .control) ≡ true) (kept : keptAt (s .control) l ≡ true) where
+module _ (s : Spi) (l : Levels) (on : isEnabled (s .control) ≡ true) (kept : isKept (s .control) l ≡ true) where
   pub waits : edgeAt s (l .sck) ≡ false → Within s (clockOf s l) (s .transfer .edges) (viewOf s)
   waits e =
       subst (λ (t : Spi). Within s t (s .transfer .edges) (viewOf s)) (sym (clock-waits s l on kept e))

@@ -1,5 +1,6 @@
 pub mod DivisorLaws
 pub mod ClockLaws
 pub mod ValidLaws
+pub mod EventLaws
 pub mod WholeByte
 pub mod Transfers

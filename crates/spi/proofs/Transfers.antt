@@ -1,11 +1,10 @@
 -- The two transfers of the unit: a master's, whose edge k comes on the k·h-th clock, and a slave's, at any spacing of edges.
 use Prim.Native.Nat.{ℕ, zero, suc, _+_, _-_, _*_, _≤_, _<_}
 use mathlib.Core.Bool.{Bool, true, false}
-use mathlib.Core.List.{List, [], _∷_}
+use mathlib.Core.List.{List, [], _∷_, _++_}
 use mathlib.Core.Path.{_≡_, refl, sym, ap, subst, _∙_}
 use native.Mathlib.Omega.{arith}
 use lib.Dec.{eqb, lit≤}
-use lib.ListN.{length}
 use borrow.Author.Tests.{eq-eqb, ne-eqb}
 use Rattle.choice.specs.Pick.{pick}
 use Rattle.choice.proofs.Picks.{pick-ind, split, both}
@@ -15,13 +14,16 @@ use Rattle.spi.specs.Control.{isEnabled, isMaster, modeOf, numberOf, hal
 use Rattle.spi.specs.Divisor.{halfOf}
 use Rattle.spi.specs.Clock.{clockOf}
 use Rattle.spi.specs.Register.{filled, withMosi, startedOf, loadedOf, accessed, writeSpdr}
-use Rattle.spi.specs.Run.{isKept, edgeAt, isUpTo, SetsSpif, Exchanges, MayStart, MayTake}
+use Rattle.spi.specs.Event.{Event, clock, write, read, vector, nextOf, clocksIn, isKept, isHarmless, isUndisturbed}
+use Rattle.spi.specs.Exchange.{edgeAt, isUpTo, SetsSpif, Exchanges, MayStart, MayTake}
 use Rattle.spi.specs.declared.clock.Levels.{Levels}
 use Rattle.spi.specs.declared.control.Control.{Control}
 use Rattle.spi.specs.declared.divisor.Clocks.{Clocks}
+use Rattle.spi.specs.declared.transfer.Transfer.{Transfer}
 use Rattle.spi.specs.declared.unit.Spi.{Spi}
 use Rattle.spi.proofs.DivisorLaws.{half-of}
-use Rattle.spi.proofs.ClockLaws.{keptAt, viewOf, clock-waits, clock-onward}
+use Rattle.spi.proofs.ClockLaws.{viewOf, clock-waits, clock-onward}
+use Rattle.spi.proofs.EventLaws.{Same, write-same, read-same, vector-same}
 use Rattle.spi.proofs.WholeByte.{exchanges}
 
 module _ (c : Control) (on : isEnabled c ≡ true) (ms : isMaster c ≡ true) where
@@ -34,11 +36,11 @@ module _ (c : Control) (on : isEnabled c ≡ true) (ms : isMaster c ≡ true) wh
   pub due-edge : (s : Spi) (k j : ℕ) (sck : Bool) → Due s k j → edgeAt s sck ≡ eqb j 1
   due-edge s k j sck d = rw (ap isMaster (d .control) ∙ ms, d .left)
 
-  pub due-waits : (s : Spi) (l : Levels) (k j : ℕ) → Due s k (suc (suc j)) → keptAt c l ≡ true → Due (clockOf s l) k (suc j)
+  pub due-waits : (s : Spi) (l : Levels) (k j : ℕ) → Due s k (suc (suc j)) → isKept c l ≡ true → Due (clockOf s l) k (suc j)
   due-waits s l k j d kp =
       let e : edgeAt s (l .sck) ≡ false = due-edge s k (suc (suc j)) (l .sck) d ∙ ne-eqb (suc (suc j)) 1 (λ q. omega arith) in
       let m : isMaster (s .control) ≡ true = ap isMaster (d .control) ∙ ms in
-      let w = clock-waits s l (ap isEnabled (d .control) ∙ on) (ap (λ (x : Control). keptAt x l) (d .control) ∙ kp) e in
+      let w = clock-waits s l (ap isEnabled (d .control) ∙ on) (ap (λ (x : Control). isKept x l) (d .control) ∙ kp) e in
       let one : s .transfer .left .0 - 1 ≡ suc j = omega (arith, d .left) in
       subst (λ (t : Spi). Due t k (suc j)) (sym w)
       (record {
@@ -47,11 +49,11 @@ module _ (c : Control) (on : isEnabled c ≡ true) (ms : isMaster c ≡ true) wh
         left = ap (λ (b : Bool). pick b (record { 0 = s .transfer .left .0 - 1 }) (s .transfer .left) .0) m ∙ one;
       })
 
-  pub due-goes : (s : Spi) (l : Levels) (k : ℕ) → Due s k 1 → keptAt c l ≡ true → k < 15 → Due (clockOf s l) (k + 1) (half c)
+  pub due-goes : (s : Spi) (l : Levels) (k : ℕ) → Due s k 1 → isKept c l ≡ true → k < 15 → Due (clockOf s l) (k + 1) (half c)
   due-goes s l k d kp h =
       let e : edgeAt s (l .sck) ≡ true = due-edge s k 1 (l .sck) d in
       let m : isMaster (s .control) ≡ true = ap isMaster (d .control) ∙ ms in
-      let w = clock-onward s l (ap isEnabled (d .control) ∙ on) (ap (λ (x : Control). keptAt x l) (d .control) ∙ kp) e (subst (λ (n : ℕ). n < 15) (sym (d .edges)) h) in
+      let w = clock-onward s l (ap isEnabled (d .control) ∙ on) (ap (λ (x : Control). isKept x l) (d .control) ∙ kp) e (subst (λ (n : ℕ). n < 15) (sym (d .edges)) h) in
       subst (λ (t : Spi). Due t (k + 1) (half c)) (sym w)
       (record {
         control = d .control;
@@ -60,24 +62,41 @@ module _ (c : Control) (on : isEnabled c ≡ true) (ms : isMaster c ≡ true) wh
             ap (λ (b : Bool). pick {A = Clocks} b (record { 0 = half (s .control) }) (record { 0 = 0 }) .0) m ∙ ap half (d .control);
       })
 
+  due-same : (s t : Spi) (k j : ℕ) → Same s t → Due s k j → Due t k j
+  due-same s t k j m d = record {
+    control = m .control ∙ d .control;
+    edges = ap (λ (u : Transfer). u .edges) (m .transfer) ∙ d .edges;
+    left = ap (λ (u : Transfer). u .left .0) (m .transfer) ∙ d .left;
+  }
+
   half-pos : 1 ≤ half c
   half-pos = half-of (numberOf c) .low
 
-  edge-after : (ls : List Levels) (s : Spi) (k n j : ℕ) → Due s k (suc j) → isKept c ls ≡ true → k + suc n ≤ 16 → length ls ≡ suc j + n * half c
-      → isUpTo (suc n) s ls ≡ true
-  edge-after [] s k n j d kp h e = absurd (omega arith)
-  edge-after (l ∷ ls) s k n (suc j) d kp h e =
-      let p = both (keptAt c l) (isKept c ls) kp in
-      let x : edgeAt s (l .sck) ≡ false = due-edge s k (suc (suc j)) (l .sck) d ∙ ne-eqb (suc (suc j)) 1 (λ q. omega arith) in
-      rw x (edge-after ls (clockOf s l) k n j (due-waits s l k j d (p .0)) (p .1) h (omega arith))
-  edge-after (l ∷ []) s k zero zero d kp h e = rw (due-edge s k 1 (l .sck) d) refl
-  edge-after (l ∷ m ∷ ls) s k zero zero d kp h e = absurd (omega arith)
-  edge-after (l ∷ ls) s k (suc n) zero d kp h e =
-      let p = both (keptAt c l) (isKept c ls) kp in
+  kept-of : (s : Spi) (l : Levels) → s .control ≡ c → isKept (s .control) l ≡ true → isKept c l ≡ true
+  kept-of s l hc h = ap (λ (d : Control). isKept d l) (sym hc) ∙ h
+
+  -- after j clocks and n times h more, the next clock is that of the (n + 1)-th edge
+  edge-after : (es : List Event) (l : Levels) (s : Spi) (k n j : ℕ) → Due s k (suc j) → isUndisturbed s (es ++ (clock l ∷ [])) ≡ true → k + suc n ≤ 16
+      → clocksIn es ≡ j + n * half c → isUpTo (suc n) s (es ++ (clock l ∷ [])) ≡ true
+  edge-after [] l s k zero zero d kp h e = rw (due-edge s k 1 (l .sck) d) refl
+  edge-after [] l s k zero (suc j) d kp h e = absurd (omega arith)
+  edge-after [] l s k (suc n) j d kp h e = absurd (omega (arith, half-pos))
+  edge-after (clock m ∷ es) l s k n (suc j) d kp h e =
+      let p = both (isKept (s .control) m) (isUndisturbed (clockOf s m) (es ++ (clock l ∷ []))) kp in
+      let x : edgeAt s (m .sck) ≡ false = due-edge s k (suc (suc j)) (m .sck) d ∙ ne-eqb (suc (suc j)) 1 (λ q. omega arith) in
+      rw x (edge-after es l (clockOf s m) k n j (due-waits s m k j d (kept-of s m (d .control) (p .0))) (p .1) h (omega arith))
+  edge-after (clock m ∷ es) l s k zero zero d kp h e = absurd (omega arith)
+  edge-after (clock m ∷ es) l s k (suc n) zero d kp h e =
+      let p = both (isKept (s .control) m) (isUndisturbed (clockOf s m) (es ++ (clock l ∷ []))) kp in
       let g : half c ≡ suc (half c - 1) = omega (arith, half-pos) in
-      rw (due-edge s k 1 (l .sck) d)
-      (edge-after ls (clockOf s l) (k + 1) n (half c - 1) (subst (λ (i : ℕ). Due (clockOf s l) (k + 1) i) g (due-goes s l k d (p .0) (omega arith))) (p .1) (omega arith)
-      (omega (arith, half-pos)))
+      let w : Due (clockOf s m) (k + 1) (suc (half c - 1)) =
+      subst (λ (i : ℕ). Due (clockOf s m) (k + 1) i) g (due-goes s m k d (kept-of s m (d .control) (p .0)) (omega arith)) in
+      rw (due-edge s k 1 (m .sck) d) (edge-after es l (clockOf s m) (k + 1) n (half c - 1) w (p .1) (omega arith) (omega (arith, half-pos)))
+  edge-after (write r v ∷ es) l s k n j d kp h e =
+      let p = both (isHarmless s (write r v)) (isUndisturbed (nextOf s (write r v)) (es ++ (clock l ∷ []))) kp in
+      edge-after es l (nextOf s (write r v)) k n j (due-same s _ k (suc j) (write-same s r v (p .0)) d) (p .1) h e
+  edge-after (read r ∷ es) l s k n j d kp h e = edge-after es l (nextOf s (read r)) k n j (due-same s _ k (suc j) (read-same s r) d) kp h e
+  edge-after (vector ∷ es) l s k n j d kp h e = edge-after es l (nextOf s vector) k n j (due-same s _ k (suc j) (vector-same s) d) kp h e
 
 -- what writing SPDR starts
 pub record Begun (s : Spi) (v : ℕ) (t : Spi) : Type 0 where
@@ -108,9 +127,9 @@ begun s v m =
     subst (λ (t : Spi). Begun s v t) (sym w)
     (record { control = b .control; edges = b .edges; left = b .left; shift = b .shift; presented = b .presented })
 
-module _ (s : Spi) (v : ℕ) (ls : List Levels) (m : MayStart s v) (kp : isKept (s .control) ls ≡ true) where
+module _ (s : Spi) (v : ℕ) (es : List Event) (l : Levels) (m : MayStart s v) (kp : isUndisturbed (writeSpdr s v) (es ++ (clock l ∷ [])) ≡ true) where
   -- edge n of SCK comes on the n·h-th clock after the write, n from 1 to 16
-  pub edge-times : (n : ℕ) → 1 ≤ n → n ≤ 16 → length ls ≡ n * half (s .control) → isUpTo n (writeSpdr s v) ls ≡ true
+  pub edge-times : (n : ℕ) → 1 ≤ n → n ≤ 16 → clocksIn es + 1 ≡ n * half (s .control) → isUpTo n (writeSpdr s v) (es ++ (clock l ∷ [])) ≡ true
   edge-times zero lo hi e = absurd (omega arith)
   edge-times (suc n) lo hi e =
       let c : Control = s .control in
@@ -118,27 +137,29 @@ module _ (s : Spi) (v : ℕ) (ls : List Levels) (m : MayStart s v) (kp : isKept 
       let b : Begun s v (writeSpdr s v) = begun s v m in
       let d : Due c (m .enabled) (m .master) (writeSpdr s v) 0 (suc (half c - 1)) =
       record { control = b .control; edges = b .edges; left = b .left ∙ omega (arith, h1) } in
-      edge-after c (m .enabled) (m .master) ls (writeSpdr s v) 0 n (half c - 1) d kp (omega arith) (omega (arith, h1))
+      edge-after c (m .enabled) (m .master) es l (writeSpdr s v) 0 n (half c - 1) d kp (omega arith) (omega (arith, h1))
 
   -- a whole master transfer: SPIF on the 16·h-th clock
-  pub master-exchanges : length ls ≡ 16 * half (s .control) → Exchanges (modeOf (s .control)) (writeSpdr s v) v ls
+  pub master-exchanges : clocksIn es + 1 ≡ 16 * half (s .control) → Exchanges (modeOf (s .control)) (writeSpdr s v) v (es ++ (clock l ∷ []))
   master-exchanges e =
       let t : Spi = writeSpdr s v in
       let b : Begun s v t = begun s v m in
       let c : t .control ≡ s .control = b .control in
-      let x : Exchanges (modeOf (t .control)) t (t .transfer .shift) ls = exchanges t ls (ap isEnabled c ∙ m .enabled) (ap (λ (d : Control). isKept d ls) c ∙ kp) (b .edges)
-      (subst (λ (n : ℕ). n < 256) (sym (b .shift)) (m .byte))
-      (subst (λ (d : Control). Presented (modeOf d) (viewOf t)) (sym c) (b .presented))
-      (edge-times 16 (lit≤ tt) (lit≤ tt) e) in
-      subst (λ (n : ℕ). Exchanges (modeOf (s .control)) t n ls) (b .shift) (subst (λ (d : Control). Exchanges (modeOf d) t (t .transfer .shift) ls) c x)
+      let x : Exchanges (modeOf (t .control)) t (t .transfer .shift) (es ++ (clock l ∷ [])) =
+      exchanges t (es ++ (clock l ∷ [])) (ap isEnabled c ∙ m .enabled) kp (b .edges) (subst (λ (n : ℕ). n < 256) (sym (b .shift)) (m .byte))
+      (subst (λ (d : Control). Presented (modeOf d) (viewOf t)) (sym c) (b .presented)) (edge-times 16 (lit≤ tt) (lit≤ tt) e) in
+      subst (λ (n : ℕ). Exchanges (modeOf (s .control)) t n (es ++ (clock l ∷ []))) (b .shift)
+      (subst (λ (d : Control). Exchanges (modeOf d) t (t .transfer .shift) (es ++ (clock l ∷ []))) c x)
 
-  -- M7: divisor 2 is number 4, divisor 128 number 3
-  pub m7 : (numberOf (s .control) ≡ 4 → length ls ≡ 16 → SetsSpif (writeSpdr s v) ls) × (numberOf (s .control) ≡ 3 → length ls ≡ 1024 → SetsSpif (writeSpdr s v) ls)
+  -- M7: divisor 2, number 4, on clock 16; divisor 128, number 3, on clock 1024
+  pub m7 : (numberOf (s .control) ≡ 4 → clocksIn es + 1 ≡ 16 → SetsSpif (writeSpdr s v) (es ++ (clock l ∷ [])))
+      × (numberOf (s .control) ≡ 3 → clocksIn es + 1 ≡ 1024 → SetsSpif (writeSpdr s v) (es ++ (clock l ∷ [])))
   m7 = (
     λ n e. master-exchanges (e ∙ ap (λ (i : ℕ). 16 * halfOf i) (sym n)) .flags,
     λ n e. master-exchanges (e ∙ ap (λ (i : ℕ). 16 * halfOf i) (sym n)) .flags,
   )
 
 -- a whole slave transfer, at any spacing of edges, SS low throughout
-pub slave-exchanges : (s : Spi) (ls : List Levels) → MayTake s → isKept (s .control) ls ≡ true → isUpTo 16 s ls ≡ true → Exchanges (modeOf (s .control)) s (s .transfer .shift) ls
-slave-exchanges s ls m kp u = exchanges s ls (m .enabled) kp (m .idle) (m .byte) (λ q. rw (m .slave, q, eq-eqb (s .transfer .edges) 0 (m .idle))) u
+pub slave-exchanges : (s : Spi) (es : List Event) → MayTake s → isUndisturbed s es ≡ true → isUpTo 16 s es ≡ true
+    → Exchanges (modeOf (s .control)) s (s .transfer .shift) es
+slave-exchanges s es m kp u = exchanges s es (m .enabled) kp (m .idle) (m .byte) (λ q. rw (m .slave, q, eq-eqb (s .transfer .edges) 0 (m .idle))) u

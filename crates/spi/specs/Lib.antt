@@ -6,4 +6,5 @@ pub mod Unit
 pub mod Clock
 pub mod Register
 pub mod Valid
-pub mod Run
+pub mod Event
+pub mod Exchange
