@@ -36,11 +36,11 @@ module _ (c : Control) (on : isEnabled c ≡ true) (ms : isMaster c ≡ true) wh
   pub due-edge : (s : Spi) (k j : ℕ) (sck : Bool) → Due s k j → edgeAt s sck ≡ eqb j 1
   due-edge s k j sck d = rw (ap isMaster (d .control) ∙ ms, d .left)
 
-  pub due-waits : (s : Spi) (l : Levels) (k j : ℕ) → Due s k (suc (suc j)) → isKept c l ≡ true → Due (clockOf s l) k (suc j)
+  pub due-waits : (s : Spi) (l : Levels) (k j : ℕ) → Due s k (suc (suc j)) → isKept (s .control) l ≡ true → Due (clockOf s l) k (suc j)
   due-waits s l k j d kp =
       let e : edgeAt s (l .sck) ≡ false = due-edge s k (suc (suc j)) (l .sck) d ∙ ne-eqb (suc (suc j)) 1 (λ q. omega arith) in
       let m : isMaster (s .control) ≡ true = ap isMaster (d .control) ∙ ms in
-      let w = clock-waits s l (ap isEnabled (d .control) ∙ on) (ap (λ (x : Control). isKept x l) (d .control) ∙ kp) e in
+      let w = clock-waits s l (ap isEnabled (d .control) ∙ on) kp e in
       let one : s .transfer .left .0 - 1 ≡ suc j = omega (arith, d .left) in
       subst (λ (t : Spi). Due t k (suc j)) (sym w)
       (record {
@@ -49,11 +49,11 @@ module _ (c : Control) (on : isEnabled c ≡ true) (ms : isMaster c ≡ true) wh
         left = ap (λ (b : Bool). pick b (record { 0 = s .transfer .left .0 - 1 }) (s .transfer .left) .0) m ∙ one;
       })
 
-  pub due-goes : (s : Spi) (l : Levels) (k : ℕ) → Due s k 1 → isKept c l ≡ true → k < 15 → Due (clockOf s l) (k + 1) (half c)
+  pub due-goes : (s : Spi) (l : Levels) (k : ℕ) → Due s k 1 → isKept (s .control) l ≡ true → k < 15 → Due (clockOf s l) (k + 1) (half c)
   due-goes s l k d kp h =
       let e : edgeAt s (l .sck) ≡ true = due-edge s k 1 (l .sck) d in
       let m : isMaster (s .control) ≡ true = ap isMaster (d .control) ∙ ms in
-      let w = clock-onward s l (ap isEnabled (d .control) ∙ on) (ap (λ (x : Control). isKept x l) (d .control) ∙ kp) e (subst (λ (n : ℕ). n < 15) (sym (d .edges)) h) in
+      let w = clock-onward s l (ap isEnabled (d .control) ∙ on) kp e (subst (λ (n : ℕ). n < 15) (sym (d .edges)) h) in
       subst (λ (t : Spi). Due t (k + 1) (half c)) (sym w)
       (record {
         control = d .control;
@@ -72,9 +72,6 @@ module _ (c : Control) (on : isEnabled c ≡ true) (ms : isMaster c ≡ true) wh
   half-pos : 1 ≤ half c
   half-pos = half-of (numberOf c) .low
 
-  kept-of : (s : Spi) (l : Levels) → s .control ≡ c → isKept (s .control) l ≡ true → isKept c l ≡ true
-  kept-of s l hc h = ap (λ (d : Control). isKept d l) (sym hc) ∙ h
-
   -- after j clocks and n times h more, the next clock is that of the (n + 1)-th edge
   edge-after : (es : List Event) (l : Levels) (s : Spi) (k n j : ℕ) → Due s k (suc j) → isUndisturbed s (es ++ (clock l ∷ [])) ≡ true → k + suc n ≤ 16
       → clocksIn es ≡ j + n * half c → isUpTo (suc n) s (es ++ (clock l ∷ [])) ≡ true
@@ -84,13 +81,13 @@ module _ (c : Control) (on : isEnabled c ≡ true) (ms : isMaster c ≡ true) wh
   edge-after (clock m ∷ es) l s k n (suc j) d kp h e =
       let p = both (isKept (s .control) m) (isUndisturbed (clockOf s m) (es ++ (clock l ∷ []))) kp in
       let x : edgeAt s (m .sck) ≡ false = due-edge s k (suc (suc j)) (m .sck) d ∙ ne-eqb (suc (suc j)) 1 (λ q. omega arith) in
-      rw x (edge-after es l (clockOf s m) k n j (due-waits s m k j d (kept-of s m (d .control) (p .0))) (p .1) h (omega arith))
+      rw x (edge-after es l (clockOf s m) k n j (due-waits s m k j d (p .0)) (p .1) h (omega arith))
   edge-after (clock m ∷ es) l s k zero zero d kp h e = absurd (omega arith)
   edge-after (clock m ∷ es) l s k (suc n) zero d kp h e =
       let p = both (isKept (s .control) m) (isUndisturbed (clockOf s m) (es ++ (clock l ∷ []))) kp in
       let g : half c ≡ suc (half c - 1) = omega (arith, half-pos) in
       let w : Due (clockOf s m) (k + 1) (suc (half c - 1)) =
-      subst (λ (i : ℕ). Due (clockOf s m) (k + 1) i) g (due-goes s m k d (kept-of s m (d .control) (p .0)) (omega arith)) in
+      subst (λ (i : ℕ). Due (clockOf s m) (k + 1) i) g (due-goes s m k d (p .0) (omega arith)) in
       rw (due-edge s k 1 (m .sck) d) (edge-after es l (clockOf s m) (k + 1) n (half c - 1) w (p .1) (omega arith) (omega (arith, half-pos)))
   edge-after (write r v ∷ es) l s k n j d kp h e =
       let p = both (isHarmless s (write r v)) (isUndisturbed (nextOf s (write r v)) (es ++ (clock l ∷ []))) kp in

@@ -5,7 +5,7 @@ use mathlib.Core.List.{List, [], _∷_, _++_}
 use mathlib.Core.Path.{_≡_, refl, sym, ap, ap₂, subst, _∙_}
 use native.Mathlib.Omega.{arith}
 use lib.ListN.{length}
-use borrow.Author.Tests.{eqb-true, eq-eqb}
+use borrow.Author.Tests.{eqb-true}
 use Rattle.choice.specs.Pick.{pick}
 use Rattle.choice.proofs.Picks.{split, both}
 use Rattle.shifter.specs.Order.{bitsOf}
@@ -16,7 +16,6 @@ use Rattle.shifter.specs.declared.Shifter.{Shifter}
 use Rattle.shifter.proofs.Byte.{Presented, whole-byte, out-kept}
 use Rattle.spi.specs.Control.{isEnabled, modeOf}
 use Rattle.spi.specs.Flag.{isUp, raisedOf}
-use Rattle.spi.specs.Transfer.{isUnderWay}
 use Rattle.spi.specs.Clock.{clockOf}
 use Rattle.spi.specs.Event.{Event, clock, write, read, vector, nextOf, finalOf, isKept, isHarmless, isUndisturbed}
 use Rattle.spi.specs.Exchange.{inputOf, outOf, edgeAt, isEdgeIn, inputIn, outIn, inputsAt, outsAt, isUpTo, Exchanges}
@@ -27,121 +26,77 @@ use Rattle.spi.specs.declared.flag.Flag.{Flag}
 use Rattle.spi.specs.declared.flag.Flag.the-variants.{Clear, Set, Armed}
 use Rattle.spi.specs.declared.transfer.Transfer.{Transfer}
 use Rattle.spi.specs.declared.unit.Spi.{Spi}
-use Rattle.spi.proofs.ClockLaws.{viewOf, view-same, Ended, waits, goes-on, ends}
+use Rattle.spi.proofs.ClockLaws.{viewOf}
 use Rattle.spi.proofs.EventLaws.{Same, write-same, read-same, vector-same}
+use Rattle.spi.proofs.Progress.{At, Closed, idle-of, at-same, at-waits, at-goes, at-ends}
 
 -- SPIF does not rise from s to t
 abbrev pub Down : Spi → Spi → Type 0
 Down s t = isUp (s .flags .spif) ≡ false → isUp (t .flags .spif) ≡ false
 
-raised-up : (f : Flag) → isUp (raisedOf f) ≡ true
-raised-up Clear = refl
-raised-up Set = refl
-raised-up Armed = refl
-
 module _ (c : Control) (on : isEnabled c ≡ true) where
-  -- k edges into a byte, with r in the shift register and out, and x in the receive buffer
-  pub record At (s : Spi) (k : ℕ) (r : Shifter) (x : ℕ) : Type 0 where
-    pub control : s .control ≡ c
-    pub edges : s .transfer .edges ≡ k
-    pub view : viewOf s ≡ r
-    pub received : s .transfer .received ≡ x
-
   -- an event without an edge
-  pub record Quiet (s : Spi) (e : Event) (k : ℕ) (r : Shifter) (x : ℕ) : Type 0 where
-    pub inputs : inputIn s e ≡ []
-    pub outs : outIn s e ≡ []
-    pub at : At (nextOf s e) k r x
-    pub down : Down s (nextOf s e)
+  record Quiet (s : Spi) (e : Event) (k : ℕ) (r : Shifter) (x : ℕ) : Type 0 where
+    inputs : inputIn s e ≡ []
+    outs : outIn s e ≡ []
+    at : At c on (nextOf s e) k r x
+    down : Down s (nextOf s e)
 
   -- an edge with its input
-  pub record Edge (s : Spi) (e : Event) (k : ℕ) (r : Shifter) (x : ℕ) : Type 0 where
-    pub input : Bool
-    pub inputs : inputIn s e ≡ input ∷ []
-    pub outs : outIn s e ≡ edgeOf (modeOf c) r (k + 1) input .out ∷ []
-    pub at : At (nextOf s e) (k + 1) (edgeOf (modeOf c) r (k + 1) input) x
-    pub down : Down s (nextOf s e)
+  record Edge (s : Spi) (e : Event) (k : ℕ) (r : Shifter) (x : ℕ) : Type 0 where
+    input : Bool
+    inputs : inputIn s e ≡ input ∷ []
+    outs : outIn s e ≡ edgeOf (modeOf c) r (k + 1) input .out ∷ []
+    at : At c on (nextOf s e) (k + 1) (edgeOf (modeOf c) r (k + 1) input) x
+    down : Down s (nextOf s e)
 
   -- edge 16 with its input
-  pub record Last (s : Spi) (e : Event) (r : Shifter) : Type 0 where
-    pub input : Bool
-    pub inputs : inputIn s e ≡ input ∷ []
-    pub outs : outIn s e ≡ edgeOf (modeOf c) r 16 input .out ∷ []
-    pub received : nextOf s e .transfer .received ≡ edgeOf (modeOf c) r 16 input .shift
-    pub edges : nextOf s e .transfer .edges ≡ 0
-    pub left : nextOf s e .transfer .left .0 ≡ 0
-    pub spif : isUp (nextOf s e .flags .spif) ≡ true
+  record Last (s : Spi) (e : Event) (r : Shifter) : Type 0 where
+    input : Bool
+    inputs : inputIn s e ≡ input ∷ []
+    outs : outIn s e ≡ edgeOf (modeOf c) r 16 input .out ∷ []
+    closed : Closed c on (nextOf s e) (edgeOf (modeOf c) r 16 input)
 
-  module _ (s : Spi) (k : ℕ) (r : Shifter) (x : ℕ) (a : At s k r x) where
-    enabled : isEnabled (s .control) ≡ true
-    enabled = ap isEnabled (a .control) ∙ on
+  module _ (s : Spi) (k : ℕ) (r : Shifter) (x : ℕ) (a : At c on s k r x) where
+    kept-flags : (t : Spi) → t .flags ≡ s .flags → Down s t
+    kept-flags t h d = ap (λ (g : Flags). isUp (g .spif)) h ∙ d
 
-    edged-same : (l : Levels) (n : ℕ) → edgeOf (modeOf (s .control)) (viewOf s) n (inputOf (s .control) l) ≡ edgeOf (modeOf c) r n (inputOf (s .control) l)
-    edged-same l n =
-        ap (λ (d : Control). edgeOf (modeOf d) (viewOf s) n (inputOf (s .control) l)) (a .control)
-        ∙ ap (λ (v : Shifter). edgeOf (modeOf c) v n (inputOf (s .control) l)) (a .view)
+    input-same : (l : Levels) → inputOf (s .control) l ≡ inputOf c l
+    input-same l = ap (λ (d : Control). inputOf d l) (a .control)
 
-    at-same : (t : Spi) → Same s t → At t k r x
-    at-same t m = record {
-      control = m .control ∙ a .control;
-      edges = ap (λ (u : Transfer). u .edges) (m .transfer) ∙ a .edges;
-      view = view-same s t (m .control) (m .transfer) (m .pins) ∙ a .view;
-      received = ap (λ (u : Transfer). u .received) (m .transfer) ∙ a .received;
-    }
+    unharmed : (e : Event) → inputIn s e ≡ [] → outIn s e ≡ [] → Same s (nextOf s e) → Quiet s e k r x
+    unharmed e i o m = record { inputs = i; outs = o; at = at-same c on s k r x a (nextOf s e) m; down = m .down }
 
-    pub quiet : (e : Event) → isHarmless s e ≡ true → isEdgeIn s e ≡ false → Quiet s e k r x
+    quiet : (e : Event) → isHarmless s e ≡ true → isEdgeIn s e ≡ false → Quiet s e k r x
     quiet (clock l) h q =
-        let w = waits s l enabled h q in
-        record {
-          inputs = rw q refl;
-          outs = rw q refl;
-          at = record {
-            control = w .control ∙ a .control;
-            edges = w .edges ∙ a .edges;
-            view = w .view ∙ a .view;
-            received = w .received ∙ a .received;
-          };
-          down = λ d. ap (λ (f : Flag). isUp f) (ap (λ (g : Flags). g .spif) (w .flags)) ∙ d;
-        }
-    quiet (write g v) h q = let m = write-same s g v h in record { inputs = refl; outs = refl; at = at-same _ m; down = m .down }
-    quiet (read g) h q = let m = read-same s g in record { inputs = refl; outs = refl; at = at-same _ m; down = m .down }
-    quiet vector h q = let m = vector-same s in record { inputs = refl; outs = refl; at = at-same _ m; down = m .down }
+        let w = at-waits c on s k r x a l h q in
+        record { inputs = rw q refl; outs = rw q refl; at = w .at; down = kept-flags (clockOf s l) (w .flags) }
+    quiet (write g v) h q = unharmed (write g v) refl refl (write-same s g v h)
+    quiet (read g) h q = unharmed (read g) refl refl (read-same s g)
+    quiet vector h q = unharmed vector refl refl (vector-same s)
 
-    pub edge : (e : Event) → isHarmless s e ≡ true → isEdgeIn s e ≡ true → k < 15 → Edge s e k r x
+    edge : (e : Event) → isHarmless s e ≡ true → isEdgeIn s e ≡ true → k < 15 → Edge s e k r x
     edge (clock l) h q lt =
-        let i : Bool = inputOf (s .control) l in
-        let w = goes-on s l enabled h q (subst (λ (n : ℕ). n < 15) (sym (a .edges)) lt) in
-        let v : edgeOf (modeOf (s .control)) (viewOf s) (s .transfer .edges + 1) i ≡ edgeOf (modeOf c) r (k + 1) i =
-        edged-same l (s .transfer .edges + 1) ∙ ap (λ (n : ℕ). edgeOf (modeOf c) r (n + 1) i) (a .edges) in
+        let w = at-goes c on s k r x a l h q lt in
         record {
-          input = i;
-          inputs = rw q refl;
-          outs = rw q (ap (λ (b : Bool). b ∷ []) (w .out ∙ ap (λ (z : Shifter). z .out) v));
-          at = record {
-            control = w .control ∙ a .control;
-            edges = w .edges ∙ ap (λ (n : ℕ). n + 1) (a .edges);
-            view = w .view ∙ v;
-            received = w .received ∙ a .received;
-          };
-          down = λ d. ap (λ (f : Flag). isUp f) (ap (λ (g : Flags). g .spif) (w .flags)) ∙ d;
+          input = inputOf c l;
+          inputs = rw q (ap (λ (b : Bool). b ∷ []) (input-same l));
+          outs = rw q (ap (λ (b : Bool). b ∷ []) (w .out));
+          at = w .at;
+          down = kept-flags (clockOf s l) (w .flags);
         }
     edge (write g v) h q lt = absurd (let z : _≡_ {A = ℕ} 0 1 = cc in omega arith)
     edge (read g) h q lt = absurd (let z : _≡_ {A = ℕ} 0 1 = cc in omega arith)
     edge vector h q lt = absurd (let z : _≡_ {A = ℕ} 0 1 = cc in omega arith)
 
-    pub last : (e : Event) → isHarmless s e ≡ true → isEdgeIn s e ≡ true → k ≡ 15 → Last s e r
+    last : (e : Event) → isHarmless s e ≡ true → isEdgeIn s e ≡ true → k ≡ 15 → Last s e r
     last (clock l) h q k15 =
-        let i : Bool = inputOf (s .control) l in
-        let w = ends s l enabled h q (a .edges ∙ k15) in
-        let v : edgeOf (modeOf (s .control)) (viewOf s) 16 i ≡ edgeOf (modeOf c) r 16 i = edged-same l 16 in
+        let w = at-ends c on s k r x a l h q k15 in
         record {
-          input = i;
-          inputs = rw q refl;
-          outs = rw q (ap (λ (b : Bool). b ∷ []) (w .out ∙ ap (λ (z : Shifter). z .out) v));
-          received = w .received ∙ ap (λ (z : Shifter). z .shift) v;
-          edges = w .edges;
-          left = w .left;
-          spif = ap (λ (g : Flags). isUp (g .spif)) (w .flags) ∙ raised-up (s .flags .spif);
+          input = inputOf c l;
+          inputs = rw q (ap (λ (b : Bool). b ∷ []) (input-same l));
+          outs = rw q (ap (λ (b : Bool). b ∷ []) (w .out));
+          closed = w;
         }
     last (write g v) h q k15 = absurd (let z : _≡_ {A = ℕ} 0 1 = cc in omega arith)
     last (read g) h q k15 = absurd (let z : _≡_ {A = ℕ} 0 1 = cc in omega arith)
@@ -164,15 +119,14 @@ module _ (c : Control) (on : isEnabled c ≡ true) where
       split (isSampling (modeOf c .cpha) (k + 1)) (λ e. rw e (ap₂ (λ (b : Bool) (z : List Bool). b ∷ z) (out-kept (modeOf c) r (k + 1) i e) hs)) (λ e. rw e hs)
 
   whole-last : (es : List Event) (s : Spi) (e : Event) (r : Shifter) → Last s e r → isUpTo zero (nextOf s e) es ≡ true → Whole s 15 r (e ∷ es)
-  whole-last [] s e r w u =
-      record {
-        sent = rw (w .inputs, w .outs) (shown 15 r (w .input) [] [] refl);
-        count = rw (w .inputs) refl;
-        received = rw (w .inputs) (w .received);
-        edges = w .edges;
-        left = w .left;
-        spif = w .spif;
-      }
+  whole-last [] s e r w u = record {
+    sent = rw (w .inputs, w .outs) (shown 15 r (w .input) [] [] refl);
+    count = rw (w .inputs) refl;
+    received = rw (w .inputs) (w .closed .received);
+    edges = w .closed .edges;
+    left = w .closed .left;
+    spif = w .closed .spif;
+  }
   whole-last (y ∷ ys) s e r w u = absurd (let z : _≡_ {A = ℕ} 0 1 = cc in omega arith)
 
   whole-quiet : (es : List Event) (s : Spi) (e : Event) (k : ℕ) (r : Shifter) (x : ℕ) → Quiet s e k r x → Whole (nextOf s e) k r es → Whole s k r (e ∷ es)
@@ -196,7 +150,7 @@ module _ (c : Control) (on : isEnabled c ≡ true) where
     spif = w .spif;
   }
 
-  whole : (es : List Event) (s : Spi) (k n : ℕ) (r : Shifter) (x : ℕ) → At s k r x → isUndisturbed s es ≡ true → k + suc n ≡ 16 → isUpTo (suc n) s es ≡ true
+  whole : (es : List Event) (s : Spi) (k n : ℕ) (r : Shifter) (x : ℕ) → At c on s k r x → isUndisturbed s es ≡ true → k + suc n ≡ 16 → isUpTo (suc n) s es ≡ true
       → Whole s k r es
   whole [] s k n r x a kp h u = absurd (omega (arith, eqb-true (suc n) 0 u))
   whole (e ∷ es) s k zero r x a kp h u =
@@ -217,7 +171,7 @@ module _ (c : Control) (on : isEnabled c ≡ true) where
   never (x ∷ xs) y ys s u = let z : _≡_ {A = ℕ} 0 1 = cc in omega arith
 
   -- until the last event SPIF does not rise, and the receive buffer is as before
-  before : (xs : List Event) (y : Event) (ys : List Event) (s : Spi) (k n : ℕ) (r : Shifter) (x : ℕ) → At s k r x
+  before : (xs : List Event) (y : Event) (ys : List Event) (s : Spi) (k n : ℕ) (r : Shifter) (x : ℕ) → At c on s k r x
       → isUndisturbed s (xs ++ (y ∷ ys)) ≡ true → k + n ≡ 16 → isUpTo n s (xs ++ (y ∷ ys)) ≡ true
       → Down s (finalOf s xs) × (finalOf s xs .transfer .received ≡ x)
   before [] y ys s k n r x a kp h u = (λ d. d, a .received)
@@ -237,10 +191,6 @@ module _ (c : Control) (on : isEnabled c ≡ true) where
       positive : (j : ℕ) (t : Spi) → isUpTo j t (xs ++ (y ∷ ys)) ≡ true → 0 < j
       positive zero t v = absurd (never xs y ys t v)
       positive (suc j) t v = omega arith
-
-idle-of : (t : Transfer) → t .edges ≡ 0 → t .left .0 ≡ 0 → isUnderWay t ≡ false
-unfolding isUnderWay
-idle-of t e l = rw (eq-eqb (t .edges) 0 e, eq-eqb (t .left .0) 0 l)
 
 -- any byte, from no edge seen
 pub exchanges : (s : Spi) (es : List Event) → isEnabled (s .control) ≡ true → isUndisturbed s es ≡ true → s .transfer .edges ≡ 0 → s .transfer .shift < 256

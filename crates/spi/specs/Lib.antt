@@ -8,3 +8,4 @@ pub mod Register
 pub mod Valid
 pub mod Event
 pub mod Exchange
+pub mod Wired

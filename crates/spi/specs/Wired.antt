@@ -1,0 +1,84 @@
+-- A master and a slave of this model on one wire, each clocked by its own crystal.
+use Prim.Native.Nat.{ℕ, suc, _*_, _/_, _%_, _<_}
+use mathlib.Core.Bool.{Bool, true, false, not}
+use mathlib.Core.List.{List, [], _∷_}
+use mathlib.Core.Path.{_≡_}
+use lib.Dec.{eqb}
+use Rattle.choice.specs.Pick.{pick}
+use Rattle.shifter.specs.Order.{outBit}
+use Rattle.spi.specs.Control.{isEnabled, isMaster, cpolOf, modeOf, drives}
+use Rattle.spi.specs.Flag.{isUp}
+use Rattle.spi.specs.Transfer.{isUnderWay}
+use Rattle.spi.specs.Unit.{outputOf}
+use Rattle.spi.specs.Clock.{clockOf}
+use Rattle.spi.specs.Exchange.{edgeAt}
+use Rattle.spi.specs.declared.clock.Levels.{Levels}
+use Rattle.spi.specs.declared.control.Control.{Control}
+use Rattle.spi.specs.declared.unit.Spi.{Spi}
+
+pub record Pair : Type 0 where
+  pub master : Spi
+  pub slave : Spi
+
+-- a level of an output byte, by the weight of its bit
+abbrev pub wire : ℕ → ℕ → Bool
+wire o w = eqb (o / w % 2) 1
+
+-- the levels of the wires as the output bytes give them; the master's SS is held high and the slave's low
+abbrev pub busOf : Pair → Bool → Levels
+busOf p ss =
+    record { miso = wire (outputOf (p .slave) false) 4; mosi = wire (outputOf (p .master) true) 2; sck = wire (outputOf (p .master) true) 8; ss = ss }
+
+-- a clock of the one or of the other
+pub data Turn : Type 0 where
+  masterTurn : Turn
+  slaveTurn : Turn
+
+abbrev pub turnOf : Pair → Turn → Pair
+turnOf p masterTurn = record { master = clockOf (p .master) (busOf p true); slave = p .slave }
+turnOf p slaveTurn = record { master = p .master; slave = clockOf (p .slave) (busOf p false) }
+
+abbrev pub finalPair : Pair → List Turn → Pair
+finalPair p [] = p
+finalPair p (t ∷ ts) = finalPair (turnOf p t) ts
+
+abbrev pub masterTurns : List Turn → ℕ
+masterTurns [] = 0
+masterTurns (masterTurn ∷ ts) = suc (masterTurns ts)
+masterTurns (slaveTurn ∷ ts) = masterTurns ts
+
+-- the slave can see every edge: it has a clock between each edge of the master and the next, and after the last. `unseen` is whether
+-- an edge waits for it
+abbrev pub isSeen : Bool → Pair → List Turn → Bool
+isSeen unseen p [] = not unseen
+isSeen unseen p (masterTurn ∷ ts) =
+    pick (edgeAt (p .master) (busOf p true .sck)) (pick unseen false (isSeen true (turnOf p masterTurn) ts)) (isSeen unseen (turnOf p masterTurn) ts)
+isSeen unseen p (slaveTurn ∷ ts) = isSeen false (turnOf p slaveTurn) ts
+
+-- both enabled, of one mode and polarity, each driving its pins
+pub record Linked (a b : Control) : Type 0 where
+  pub enabledMaster : isEnabled a ≡ true
+  pub enabledSlave : isEnabled b ≡ true
+  pub master : isMaster a ≡ true
+  pub slave : isMaster b ≡ false
+  pub mode : modeOf b ≡ modeOf a
+  pub cpol : cpolOf b ≡ cpolOf a
+  pub mosi : drives a 8 ≡ true
+  pub sck : drives a 32 ≡ true
+  pub miso : drives b 16 ≡ true
+
+-- a slave between two bytes that has had a clock on the wire at rest: it has seen SCK there, and with CPHA 0 it shows its first bit
+pub record Ready (s : Spi) : Type 0 where
+  pub idle : s .transfer .edges ≡ 0
+  pub byte : s .transfer .shift < 256
+  pub rest : s .pins .sck ≡ cpolOf (s .control)
+  pub first : modeOf (s .control) .cpha ≡ false → s .pins .miso ≡ outBit (modeOf (s .control) .dord) (s .transfer .shift)
+
+-- the master has the slave's byte x, the slave the master's v, and both say so
+pub record Swapped (p : Pair) (v x : ℕ) : Type 0 where
+  pub master : p .master .transfer .received ≡ x
+  pub slave : p .slave .transfer .received ≡ v
+  pub spifMaster : isUp (p .master .flags .spif) ≡ true
+  pub spifSlave : isUp (p .slave .flags .spif) ≡ true
+  pub idleMaster : isUnderWay (p .master .transfer) ≡ false
+  pub idleSlave : isUnderWay (p .slave .transfer) ≡ false
