@@ -6,3 +6,4 @@ pub mod Progress
 pub mod WholeByte
 pub mod Transfers
 pub mod WiredLaws
+pub mod Witness

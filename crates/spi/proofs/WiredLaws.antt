@@ -23,7 +23,7 @@ use Rattle.spi.specs.Clock.{isEdge, clockOf}
 use Rattle.spi.specs.Register.{writeSpdr}
 use Rattle.spi.specs.Event.{isKept}
 use Rattle.spi.specs.Exchange.{edgeAt, inputOf, outOf, MayStart}
-use Rattle.spi.specs.Wired.{Pair, wire, busOf, Turn, masterTurn, slaveTurn, turnOf, finalPair, masterTurns, isSeen, Linked, Ready, Swapped}
+use Rattle.spi.specs.Wired.{Pair, wire, busOf, Turn, masterTurn, slaveTurn, turnOf, finalPair, masterTurns, isSeen, inTurn, Linked, Ready, Swapped}
 use Rattle.spi.specs.declared.clock.Levels.{Levels}
 use Rattle.spi.specs.declared.control.Control.{Control}
 use Rattle.spi.specs.declared.unit.Spi.{Spi}
@@ -414,3 +414,18 @@ wired s t v ts ms w rd e u =
       idleMaster = r .idleMaster;
       idleSlave = r .idleSlave;
     }
+
+-- a slave that is clocked after its master each time sees every edge
+in-turn-seen : (n : ℕ) (p : Pair) → isSeen false p (inTurn n) ≡ true
+in-turn-seen zero p = refl
+in-turn-seen (suc n) p =
+    let u = in-turn-seen n (turnOf (turnOf p masterTurn) slaveTurn) in split (edgeAt (p .master) (busOf p true .sck)) (λ e. rw e u) (λ e. rw e u)
+
+in-turn-count : (n : ℕ) → masterTurns (inTurn n) ≡ n
+in-turn-count zero = refl
+in-turn-count (suc n) = ap suc (in-turn-count n)
+
+-- so for every divisor
+pub wired-in-turn : (s t : Spi) (v : ℕ) → MayStart s v → Linked (s .control) (t .control) → Ready t
+    → Swapped (finalPair (record { master = writeSpdr s v; slave = t }) (inTurn (16 * half (s .control)))) v (t .transfer .shift)
+wired-in-turn s t v ms w rd = wired s t v (inTurn (16 * half (s .control))) ms w rd (in-turn-count (16 * half (s .control))) (in-turn-seen (16 * half (s .control)) _)

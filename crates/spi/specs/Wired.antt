@@ -1,5 +1,5 @@
 -- A master and a slave of this model on one wire, each clocked by its own crystal.
-use Prim.Native.Nat.{ℕ, suc, _*_, _/_, _%_, _<_}
+use Prim.Native.Nat.{ℕ, zero, suc, _/_, _%_, _<_}
 use mathlib.Core.Bool.{Bool, true, false, not}
 use mathlib.Core.List.{List, [], _∷_}
 use mathlib.Core.Path.{_≡_}
@@ -54,6 +54,11 @@ isSeen unseen p [] = not unseen
 isSeen unseen p (masterTurn ∷ ts) =
     pick (edgeAt (p .master) (busOf p true .sck)) (pick unseen false (isSeen true (turnOf p masterTurn) ts)) (isSeen unseen (turnOf p masterTurn) ts)
 isSeen unseen p (slaveTurn ∷ ts) = isSeen false (turnOf p slaveTurn) ts
+
+-- n clocks of each, in turn
+abbrev pub inTurn : ℕ → List Turn
+inTurn zero = []
+inTurn (suc n) = masterTurn ∷ slaveTurn ∷ inTurn n
 
 -- both enabled, of one mode and polarity, each driving its pins
 pub record Linked (a b : Control) : Type 0 where
