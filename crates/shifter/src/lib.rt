@@ -1,8 +1,7 @@
 // The eight-bit shift register of an SPI master or slave, and what edge k of a byte's 16 does. It knows nothing of who clocks it, of pins or
 // of registers.
+use choice::digit;
 ghost use mathlib.Core.Path.{_≡_};
-ghost use Prim.Native.Nat.{_≤_};
-ghost use Rattle.choice.specs.Pick.{digit};
 ghost use Rattle.shifter.specs.Order.{outBit, shiftedIn};
 ghost use Rattle.shifter.specs.Edge.{isSampling, isPutting, edgeOf};
 
@@ -16,13 +15,6 @@ pub struct Mode {
 pub struct Shifter {
     pub shift: u8,
     pub out: bool,
-}
-
-fn digit(b: bool) -> u8
-    ensures { λ r. ⌜ r ≡ digit b ⌝ }
-    ensures { λ r. ⌜ r ≤ 1 ⌝ }
-{
-    if b { 1 } else { 0 }
 }
 
 impl Mode {

@@ -1,5 +1,4 @@
 ghost use mathlib.Core.Path.{_≡_};
-ghost use Prim.Native.Nat.{_≤_};
 ghost use Rattle.spi.specs.Divisor.{halfOf};
 
 // Clocks left until the next edge of SCK; 0 when none is due.

@@ -7,7 +7,7 @@ use crate::transfer::Transfer;
 use crate::unit::Pins;
 use crate::unit::Spi;
 use crate::unit::differs;
-use crate::unit::digit;
+use choice::digit;
 ghost use mathlib.Core.Path.{_≡_};
 ghost use Rattle.spi.specs.Unit.{resetSpi};
 ghost use Rattle.spi.specs.Register.{numberOf, withControl, withFlags, setSpcr, writeSpcr, setSpi2x, writeSpsr, collided, filled, withMosi, startedOf, loadedOf, accessed, setDdrb, writeOf, spsr, readOf, vectorOf};

@@ -3,9 +3,9 @@ use crate::divisor::Clocks;
 use crate::flag::Flag;
 use crate::flag::Flags;
 use crate::transfer::Transfer;
+use choice::digit;
 ghost use mathlib.Core.Path.{_≡_};
 ghost use Prim.Native.Nat.{_≤_};
-ghost use Rattle.choice.specs.Pick.{digit};
 ghost use Rattle.spi.specs.Unit.{resetSpi, differs, sckOf, pinOf, outputOf, isRequested, requestsOf};
 
 // The last bits put out on MOSI and MISO, and the level of SCK at the last clock.
@@ -20,13 +20,6 @@ pub struct Spi {
     pub transfer: Transfer,
     pub flags: Flags,
     pub pins: Pins,
-}
-
-pub fn digit(b: bool) -> u8
-    ensures { λ r. ⌜ r ≡ digit b ⌝ }
-    ensures { λ r. ⌜ r ≤ 1 ⌝ }
-{
-    if b { 1 } else { 0 }
 }
 
 pub fn differs(a: bool, b: bool) -> bool

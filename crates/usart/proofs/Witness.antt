@@ -9,6 +9,7 @@ use lib.Dec.{ltb, lit≤, lit<}
 use lib.ListN.{length}
 use borrow.Author.Tests.{ltb-true}
 use Rattle.choice.specs.Pick.{pick}
+use Rattle.choice.proofs.Picks.{both}
 use Rattle.frame.specs.Parity.{sumOfBits}
 use Rattle.frame.specs.Word.{frameBit, parityError}
 use Rattle.frame.specs.declared.format.Size.the-variants.{Five}
@@ -42,10 +43,6 @@ unfolding bool-eqb
 bool-eq true b e = sym e
 bool-eq false false e = refl
 bool-eq false true e = e
-
-both : (a b : Bool) → pick a b false ≡ true → (a ≡ true) × (b ≡ true)
-both true b e = (refl, e)
-both false b e = absurd (let z : _≡_ {A = ℕ} 0 1 = cc in omega arith)
 
 shown : (ℕ → Bool) → ℕ → List Bool → Bool
 shown w j [] = true

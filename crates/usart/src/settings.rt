@@ -1,3 +1,4 @@
+use choice::digit;
 use frame::Format;
 use frame::Parity;
 use frame::Size;
@@ -75,5 +76,5 @@ pub fn settings(f: Format) -> u8
 {
     let z = f.size;
     let p = f.parity;
-    size_code(z) + crate::unit::digit(f.usbs) * 8 + upm(p) * 16 + crate::unit::digit(f.u2x) * 64
+    size_code(z) + digit(f.usbs) * 8 + upm(p) * 16 + digit(f.u2x) * 64
 }

@@ -4,12 +4,11 @@ use crate::receiver::Receiver;
 use crate::sender::Buffer;
 use crate::sender::Sender;
 use crate::sender::Shifter;
+use choice::digit;
 use frame::Format;
 use frame::Parity;
 use frame::Size;
 ghost use mathlib.Core.Path.{_≡_};
-ghost use Prim.Native.Nat.{_≤_};
-ghost use Rattle.choice.specs.Pick.{digit};
 ghost use Rattle.usart.specs.Unit.{resetUsart, isBusy, tickedOf, clockOf, isDriven, outputOf, requestsOf, rxcRequested, udreRequested, txcRequested};
 
 // UCSR0B, but for the bits that are kept elsewhere: UCSZ2 in the format, RXB8 with the oldest frame.
@@ -28,13 +27,6 @@ pub struct Usart {
     pub control: Control,
     pub sender: Sender,
     pub receiver: Receiver,
-}
-
-pub fn digit(b: bool) -> u8
-    ensures { λ r. ⌜ r ≡ digit b ⌝ }
-    ensures { λ r. ⌜ r ≤ 1 ⌝ }
-{
-    if b { 1 } else { 0 }
 }
 
 impl Usart {

@@ -7,7 +7,7 @@ use crate::settings::size_code;
 use crate::settings::size_of;
 use crate::unit::Control;
 use crate::unit::Usart;
-use crate::unit::digit;
+use choice::digit;
 use frame::Format;
 use frame::Size;
 ghost use mathlib.Core.Path.{_≡_};
