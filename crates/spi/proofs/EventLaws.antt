@@ -1,7 +1,7 @@
 -- What leaves a byte under way alone changes the flags at most, and never sets SPIF.
 use Prim.Native.Nat.{ℕ}
 use mathlib.Core.Bool.{Bool, true, false}
-use mathlib.Core.Path.{_≡_, refl, sym, subst}
+use mathlib.Core.Path.{_≡_, refl, sym, subst, _∙_}
 use native.Mathlib.Omega.{arith}
 use Rattle.choice.specs.Pick.{pick}
 use Rattle.choice.proofs.Picks.{pick-ind}
@@ -27,10 +27,15 @@ pub record Same (s t : Spi) : Type 0 where
 same : (s : Spi) → Same s s
 same s = record { control = refl; transfer = refl; pins = refl; down = λ h. h }
 
-armed-down : (f : Flag) → isUp f ≡ false → isUp (armedOf f) ≡ false
-armed-down Clear h = h
-armed-down Set h = h
-armed-down Armed h = h
+armed-up : (f : Flag) → isUp (armedOf f) ≡ isUp f
+armed-up Clear = refl
+armed-up Set = refl
+armed-up Armed = refl
+
+-- reading SPSR alone clears nothing
+pub spsr-clears-none : (s : Spi)
+    → (isUp (readOf s Spsr .spi .flags .spif) ≡ isUp (s .flags .spif)) × (isUp (readOf s Spsr .spi .flags .wcol) ≡ isUp (s .flags .wcol))
+spsr-clears-none s = (armed-up (s .flags .spif), armed-up (s .flags .wcol))
 
 cleared-down : (f : Flag) → isUp f ≡ false → isUp (clearedOf f) ≡ false
 cleared-down Clear h = h
@@ -60,7 +65,7 @@ write-same s r v h = by (isRefused (writeOf s r v)) refl h
 
 pub read-same : (s : Spi) (r : Register) → Same s (nextOf s (read r))
 read-same s Spcr = same s
-read-same s Spsr = record { control = refl; transfer = refl; pins = refl; down = armed-down (s .flags .spif) }
+read-same s Spsr = record { control = refl; transfer = refl; pins = refl; down = λ h. armed-up (s .flags .spif) ∙ h }
 read-same s Spdr = record { control = refl; transfer = refl; pins = refl; down = cleared-down (s .flags .spif) }
 read-same s Ddrb = same s
 

@@ -3,6 +3,7 @@ pub mod ClockLaws
 pub mod ValidLaws
 pub mod EventLaws
 pub mod Progress
+pub mod DropLaws
 pub mod WholeByte
 pub mod Transfers
 pub mod WiredLaws

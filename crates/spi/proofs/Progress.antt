@@ -21,7 +21,7 @@ use Rattle.spi.specs.declared.unit.Spi.{Spi}
 use Rattle.spi.proofs.ClockLaws.{viewOf, view-same, waits, goes-on, ends}
 use Rattle.spi.proofs.EventLaws.{Same}
 
-raised-up : (f : Flag) → isUp (raisedOf f) ≡ true
+pub raised-up : (f : Flag) → isUp (raisedOf f) ≡ true
 raised-up Clear = refl
 raised-up Set = refl
 raised-up Armed = refl

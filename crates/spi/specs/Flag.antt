@@ -33,3 +33,7 @@ armedFlags f = record { spif = armedOf (f .spif); wcol = armedOf (f .wcol) }
 
 abbrev pub clearedFlags : Flags → Flags
 clearedFlags f = record { spif = clearedOf (f .spif); wcol = clearedOf (f .wcol) }
+
+-- by a write of SPDR that is not taken: WCOL is set, and not armed
+abbrev pub collidedFlags : Flags → Flags
+collidedFlags f = record { spif = f .spif; wcol = Set }

@@ -4,13 +4,13 @@ use mathlib.Core.Bool.{Bool}
 use lib.Dec.{eqb}
 use Rattle.choice.specs.Pick.{pick, digit}
 use Rattle.shifter.specs.Order.{outBit}
-use Rattle.spi.specs.Flag.{isUp, armedFlags, clearedFlags}
+use Rattle.spi.specs.Flag.{isUp, armedFlags, clearedFlags, collidedFlags}
 use Rattle.spi.specs.Control.{isEnabled, isMaster, modeOf, half}
 use Rattle.spi.specs.Transfer.{isUnderWay, droppedOf}
 use Rattle.spi.specs.Unit.{differs, isRequested}
 use Rattle.spi.specs.Clock.{withTransfer}
 use Rattle.spi.specs.declared.control.Control.{Control}
-use Rattle.spi.specs.declared.flag.Flag.the-variants.{Clear, Set}
+use Rattle.spi.specs.declared.flag.Flag.the-variants.{Clear}
 use Rattle.spi.specs.declared.flag.Flags.{Flags}
 use Rattle.spi.specs.declared.unit.Spi.{Spi}
 use Rattle.spi.specs.declared.register.Reading.{Reading}
@@ -58,9 +58,9 @@ writeSpsr s v =
     pick (differs (eqb (v % 2) 1) (s .control .spi2x)) (pick (isUnderWay (s .transfer)) (Refused UnderWay) (Done (setSpi2x s (eqb (v % 2) 1))))
     (Done s)
 
--- a write of SPDR that is not taken: it only sets WCOL, which is not armed
+-- a write of SPDR that is not taken only sets WCOL
 abbrev pub collided : Spi → Spi
-collided s = withFlags s (record { spif = s .flags .spif; wcol = Set })
+collided s = withFlags s (collidedFlags (s .flags))
 
 -- the shift register is filled, with the clocks to the first edge
 abbrev pub filled : Spi → ℕ → ℕ → Spi

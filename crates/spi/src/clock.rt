@@ -205,8 +205,9 @@ impl Spi {
     fn slaved(self, l: Levels) -> Spi
         ensures { λ r. ⌜ r ≡ slaveOf self l ⌝ }
     {
+        let dropped = self.with_transfer(self.transfer.dropped());
         if l.ss {
-            return self.with_transfer(self.transfer.dropped());
+            return dropped;
         }
         self.selected(l)
     }

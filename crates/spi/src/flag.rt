@@ -1,5 +1,5 @@
 ghost use mathlib.Core.Path.{_≡_};
-ghost use Rattle.spi.specs.Flag.{isUp, raisedOf, armedOf, clearedOf, armedFlags, clearedFlags};
+ghost use Rattle.spi.specs.Flag.{isUp, raisedOf, armedOf, clearedOf, armedFlags, clearedFlags, collidedFlags};
 
 // A flag that a read of SPSR arms, and the SPDR access after it clears.
 pub enum Flag {
@@ -77,6 +77,17 @@ impl Flags {
         Flags {
             spif: a.cleared(),
             wcol: b.cleared(),
+        }
+    }
+
+    // WCOL is set, and not armed.
+    pub fn collided(self) -> Flags
+        ensures { λ r. ⌜ r ≡ collidedFlags self ⌝ }
+    {
+        let a = self.spif;
+        Flags {
+            spif: a,
+            wcol: Flag::Set,
         }
     }
 }

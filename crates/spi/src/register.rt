@@ -10,7 +10,7 @@ use crate::unit::differs;
 use choice::digit;
 ghost use mathlib.Core.Path.{_≡_};
 ghost use Rattle.spi.specs.Unit.{resetSpi};
-ghost use Rattle.spi.specs.Register.{numberOf, withControl, withFlags, setSpcr, writeSpcr, setSpi2x, writeSpsr, collided, filled, withMosi, startedOf, loadedOf, accessed, setDdrb, writeOf, spsr, readOf, vectorOf};
+ghost use Rattle.spi.specs.Register.{numberOf, withControl, withFlags, setSpcr, writeSpcr, setSpi2x, writeSpsr, filled, withMosi, startedOf, loadedOf, accessed, setDdrb, writeOf, spsr, readOf, vectorOf};
 
 pub enum Register {
     Spcr,
@@ -146,17 +146,6 @@ impl Spi {
         Written::Done(self)
     }
 
-    fn collided(self) -> Spi
-        ensures { λ r. ⌜ r ≡ collided self ⌝ }
-    {
-        let f = self.flags;
-        let a = f.spif;
-        self.with_flags(Flags {
-            spif: a,
-            wcol: Flag::Set,
-        })
-    }
-
     // The shift register filled, with n clocks to the first edge.
     fn filled(self, v: u8, n: u8) -> Spi
         ensures { λ r. ⌜ r ≡ filled self v n ⌝ }
@@ -201,17 +190,19 @@ impl Spi {
         s.with_mosi(m.out_bit(v))
     }
 
+    // During a transfer it sets WCOL and nothing else.
     fn loaded(self, v: u8) -> Spi
         ensures { λ r. ⌜ r ≡ loadedOf self v ⌝ }
     {
+        let taken = self.filled(v, 0);
         if self.transfer.under_way() {
-            return self.collided();
+            return self.with_flags(self.flags.collided());
         }
         if self.control.enabled() {
             if self.control.master() {
                 return self.started(v);
             }
-            return self.filled(v, 0);
+            return taken;
         }
         self
     }

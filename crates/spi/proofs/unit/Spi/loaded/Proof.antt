@@ -5,15 +5,23 @@ use borrow.Author.Needs.{needs}
 use Rattle.spi.proofs.unit.Spi.loaded.Statement.{statement}
 use Rattle.spi.proofs.unit.Spi.loaded.Tie as tie
 
+filled-requires : tie.Need-filled-requires
+filled-requires c κs = search needs
+
 under-way-requires : tie.Need-under-way-requires
 under-way-requires c κs = search needs
 
 collided-requires : tie.Need-collided-requires
 collided-requires c κs = search needs
 
+with-flags-requires : tie.Need-with-flags-requires
+with-flags-requires c κs = search needs
+
 returns : tie.Need-returns
 unfolding loadedOf
-returns c = rw (← c .before .before .under-way .ensures) (pick-true _ _ _ _ (c .before .if1 .taken) (c .collided .ensures))
+returns c =
+    rw (c .with-flags .ensures, c .before .collided .ensures, ← c .before .before .before .under-way .ensures)
+    (pick-true _ _ _ _ (c .before .before .if1 .taken) refl)
 
 enabled-requires : tie.Need-enabled-requires
 enabled-requires c κs = search needs
@@ -26,30 +34,37 @@ started-requires c κs = search needs
 
 returns-2 : tie.Need-returns-2
 unfolding loadedOf
-returns-2 c = rw (← c .before .before .before .before .before .before .under-way .ensures, ← c .before .before .before .before .enabled .ensures, ← c .before .before .master .ensures) (pick-false _ _ _ _ (c .before .before .before .before .before .if1 .left) ((pick-true _ _ _ _ (c .before .before .before .if2 .taken) ((pick-true _ _ _ _ (c .before .if3 .taken) (c .started .ensures))))))
-
-filled-requires : tie.Need-filled-requires
-filled-requires c κs = search needs
+returns-2 c =
+    rw (← c .before .before .before .before .before .before .under-way .ensures, ← c .before .before .before .before .enabled .ensures, ← c .before .before .master .ensures)
+    (pick-false _ _ _ _ (c .before .before .before .before .before .if1 .left)
+    (pick-true _ _ _ _ (c .before .before .before .if2 .taken) (pick-true _ _ _ _ (c .before .if3 .taken) (c .started .ensures))))
 
 returns-3 : tie.Need-returns-3
 unfolding loadedOf
-returns-3 c = rw (← c .before .before .before .before .before .before .under-way .ensures, ← c .before .before .before .before .enabled .ensures, ← c .before .before .master .ensures) (pick-false _ _ _ _ (c .before .before .before .before .before .if1 .left) ((pick-true _ _ _ _ (c .before .before .before .if2 .taken) ((pick-false _ _ _ _ (c .before .if3 .left) (c .filled .ensures))))))
+returns-3 c =
+    rw (← c .before .before .before .before .before .under-way .ensures, ← c .before .before .before .enabled .ensures, ← c .before .master .ensures)
+    (pick-false _ _ _ _ (c .before .before .before .before .if1 .left)
+    (pick-true _ _ _ _ (c .before .before .if2 .taken)
+    (pick-false _ _ _ _ (c .if3 .left) (c .before .before .before .before .before .before .filled .ensures))))
 
 returns-4 : tie.Need-returns-4
 unfolding loadedOf
-returns-4 c = rw (← c .before .before .before .under-way .ensures, ← c .before .enabled .ensures) (pick-false _ _ _ _ (c .before .before .if1 .left) (pick-false _ _ _ _ (c .if2 .left) refl))
+returns-4 c =
+    rw (← c .before .before .before .under-way .ensures, ← c .before .enabled .ensures)
+    (pick-false _ _ _ _ (c .before .before .if1 .left) (pick-false _ _ _ _ (c .if2 .left) refl))
 
 pub loaded-spec : {M : Type 1} → statement M
 loaded-spec =
     tie.close
     (tie.spec
+    filled-requires
     under-way-requires
     collided-requires
+    with-flags-requires
     returns
     enabled-requires
     master-requires
     started-requires
     returns-2
-    filled-requires
     returns-3
     returns-4)

@@ -1,5 +1,7 @@
+use mathlib.Core.Path.{ap, _∙_}
 use Rattle.choice.proofs.Picks.{pick-true, pick-false}
-use Rattle.spi.specs.Clock.{slaveOf}
+use Rattle.spi.specs.Clock.{withTransfer, slaveOf}
+use Rattle.spi.specs.declared.transfer.Transfer.{Transfer}
 use borrow.Author.Needs.{needs}
 use Rattle.spi.proofs.unit.Spi.slaved.Statement.{statement}
 use Rattle.spi.proofs.unit.Spi.slaved.Tie as tie
@@ -12,14 +14,16 @@ with-transfer-requires c κs = search needs
 
 returns : tie.Need-returns
 unfolding slaveOf
-returns c = (pick-true _ _ _ _ (c .before .before .if1 .taken) rw (c .with-transfer .ensures, c .before .dropped .ensures))
+returns c =
+    pick-true _ _ _ _ (c .if1 .taken)
+    (c .before .with-transfer .ensures ∙ ap (λ (t : Transfer). withTransfer (c .before .before .before .args .self) t) (c .before .before .dropped .ensures))
 
 selected-requires : tie.Need-selected-requires
 selected-requires c κs = search needs
 
 returns-2 : tie.Need-returns-2
 unfolding slaveOf
-returns-2 c = (pick-false _ _ _ _ (c .before .if1 .left) (c .selected .ensures))
+returns-2 c = pick-false _ _ _ _ (c .before .if1 .left) (c .selected .ensures)
 
 pub slaved-spec : {M : Type 1} → statement M
 slaved-spec =

@@ -1,0 +1,44 @@
+-- What drops a byte under way, and that a dropped one is gone: the next begins anew, with the shift register as it stands.
+use Prim.Native.Nat.{ℕ, _/_, _%_, _*_, _+_}
+use mathlib.Core.Bool.{Bool, true, false}
+use mathlib.Core.Path.{_≡_, refl, sym, subst}
+use native.Mathlib.Omega.{arith}
+use borrow.Author.Tests.{ne-eqb}
+use Rattle.spi.specs.Control.{isEnabled, isMaster, isInput}
+use Rattle.spi.specs.Flag.{isUp}
+use Rattle.spi.specs.Transfer.{isUnderWay, droppedOf}
+use Rattle.spi.specs.Clock.{withTransfer, faultOf, slaveOf, steppedOf, clockOf}
+use Rattle.spi.specs.declared.clock.Levels.{Levels}
+use Rattle.spi.specs.declared.unit.Spi.{Spi}
+use Rattle.spi.proofs.ClockLaws.{seen}
+use Rattle.spi.proofs.Progress.{raised-up}
+
+-- between two bytes, with the shift register and what is out as in s
+pub record Dropped (s t : Spi) : Type 0 where
+  pub idle : isUnderWay (t .transfer) ≡ false
+  pub shift : t .transfer .shift ≡ s .transfer .shift
+  pub received : t .transfer .received ≡ s .transfer .received
+  pub mosi : t .pins .mosi ≡ s .pins .mosi
+  pub miso : t .pins .miso ≡ s .pins .miso
+
+module _ (s : Spi) (l : Levels) (on : isEnabled (s .control) ≡ true) where
+  -- SS high at a slave
+  pub deselected : isMaster (s .control) ≡ false → l .ss ≡ true → Dropped s (clockOf s l)
+  unfolding steppedOf slaveOf isUnderWay
+  deselected m h =
+      let w : steppedOf s l ≡ withTransfer s (droppedOf (s .transfer)) = rw (on, m, h) refl in
+      subst (λ (t : Spi). Dropped s (seen t (l .sck))) (sym w) (record { idle = refl; shift = refl; received = refl; mosi = refl; miso = refl })
+
+  -- SS an input and low at a master
+  pub faulted : isMaster (s .control) ≡ true → isInput (s .control) ≡ true → l .ss ≡ false
+      → Dropped s (clockOf s l) × ((isMaster (clockOf s l .control) ≡ false) × (isUp (clockOf s l .flags .spif) ≡ true))
+  unfolding steppedOf isUnderWay
+  faulted m i h =
+      let w : steppedOf s l ≡ faultOf s = rw (on, m, i, h) refl in
+      let n : ℕ = s .control .spcr in
+      subst
+      (λ (t : Spi). Dropped s (seen t (l .sck)) × ((isMaster (t .control) ≡ false) × (isUp (t .flags .spif) ≡ true)))
+      (sym w) (
+        record { idle = refl; shift = refl; received = refl; mosi = refl; miso = refl },
+        (ne-eqb ((n / 32 * 32 + n % 16) / 16 % 2) 1 (λ q. omega arith), raised-up (s .flags .spif)),
+      )
