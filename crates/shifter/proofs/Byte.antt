@@ -4,11 +4,12 @@ use mathlib.Core.Bool.{Bool, true, false}
 use mathlib.Core.List.{List, [], _∷_, _++_, append-assoc, append-nil}
 use mathlib.Core.Path.{_≡_, refl, sym, ap, ap₂, _∙_}
 use native.Mathlib.Omega.{arith}
+use lib.Dec.{eqb}
 use lib.ListN.{length, take, drop}
 use lib.Seq.{take-append-le, drop-append-le}
 use borrow.Author.Tests.{eq-eqb, ne-eqb, lt-ltb}
 use Rattle.choice.specs.Pick.{pick}
-use Rattle.choice.proofs.Picks.{pick-ind}
+use Rattle.choice.proofs.Picks.{pick-true, pick-ind}
 use Rattle.shifter.specs.Order.{outBit, shiftedIn, bitsOf}
 use Rattle.shifter.specs.Edge.{isSampling, isPutting, edgeOf}
 use Rattle.shifter.specs.Byte.{afterEdges, sampledAt, shownAt, Exchanges}
@@ -33,7 +34,7 @@ putting-odd cpha k c h = rw c (eq-eqb (k % 2) 1 h)
 
 putting-even : (cpha : Bool) (k : ℕ) → cpha ≡ false → k % 2 ≡ 0 → k < 16 → isPutting cpha k ≡ true
 unfolding isPutting
-putting-even cpha k c h l = rw (c, lt-ltb k 16 l) (eq-eqb (k % 2) 0 h)
+putting-even cpha k c h l = rw c (sym (pick-true _ (eqb (k % 2) 0) false true (lt-ltb k 16 l) (sym (eq-eqb (k % 2) 0 h))))
 
 module _ (m : Mode) (r : Shifter) (k : ℕ) (i : Bool) where
   samples : isSampling (m .cpha) k ≡ true → edgeOf m r k i ≡ record { shift = shiftedIn (m .dord) (r .shift) i; out = r .out }
