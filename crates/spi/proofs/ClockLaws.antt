@@ -216,7 +216,7 @@ waited-view s sck = ap (λ (b : Bool). record { shift = s .transfer .shift; out 
     by false false true = refl
     by false false false = refl
 
-waited-out : (s : Spi) (sck : Bool) → outOf (waitedAs s sck) ≡ viewOf s .out
+pub waited-out : (s : Spi) (sck : Bool) → outOf (waitedAs s sck) ≡ viewOf s .out
 waited-out s sck = by (isMaster (s .control)) (s .pins .mosi) (s .pins .miso) (shownMiso (s .control) (s .transfer) (s .pins .miso))
   where
     by : (m a b d : Bool) → pick m a (pick m b (pick m a d)) ≡ pick m a d

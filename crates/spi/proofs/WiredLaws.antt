@@ -23,12 +23,12 @@ use Rattle.spi.specs.Clock.{isEdge, clockOf}
 use Rattle.spi.specs.Register.{writeSpdr}
 use Rattle.spi.specs.Event.{isKept}
 use Rattle.spi.specs.Exchange.{edgeAt, inputOf, outOf, MayStart}
-use Rattle.spi.specs.Wired.{Pair, wire, busOf, Turn, masterTurn, slaveTurn, turnOf, finalPair, masterTurns, isSeen, inTurn, Linked, Ready, Swapped}
+use Rattle.spi.specs.Wired.{Pair, wire, busOf, Turn, masterTurn, slaveTurn, bothTurn, turnOf, finalPair, masterTurns, isSeen, inTurn, atOnce, Linked, Ready, Swapped}
 use Rattle.spi.specs.declared.clock.Levels.{Levels}
 use Rattle.spi.specs.declared.control.Control.{Control}
 use Rattle.spi.specs.declared.unit.Spi.{Spi}
 use Rattle.spi.proofs.DivisorLaws.{half-of}
-use Rattle.spi.proofs.ClockLaws.{shownMiso, viewOf, clock-waits}
+use Rattle.spi.proofs.ClockLaws.{shownMiso, viewOf, clock-waits, clock-ends, waited-out}
 use Rattle.spi.proofs.Progress.{At, Moved, Closed, idle-of, at-waits, at-goes, at-ends}
 use Rattle.spi.proofs.Transfers.{Due, due-edge, due-waits, due-goes, Begun, begun}
 
@@ -134,88 +134,38 @@ module _ (a b : Control) (w : Linked a b) where
   slave-sees : (s : Spi) (k : ℕ) (last sck : Bool) → s .control ≡ b → s .transfer .edges ≡ k → s .pins .sck ≡ last → edgeAt s sck ≡ isEdge rest k last sck
   slave-sees s k last sck c e h = rw (c, w .slave, w .cpol, e, h) refl
 
+  out-view : (s : Spi) (o : Bool) → s .control ≡ a → outOf s ≡ o → viewOf s .out ≡ o
+  out-view s o c v =
+      let u : isMaster (s .control) ≡ true = ap isMaster c ∙ w .master in
+      ap (λ (t : Bool). pick t (s .pins .mosi) (shownMiso (s .control) (s .transfer) (s .pins .miso))) u ∙ put-master s o c v
+
+  -- a master that is through has no edge due
+  no-more : (p : Pair) (A : Shifter) → Closed a onM (p .master) A → edgeAt (p .master) (busOf p true .sck) ≡ false
+  no-more p A i = rw (ap isMaster (i .control) ∙ w .master, i .left) refl
+
+  -- and stays so
+  through-master : (s : Spi) (l : Levels) (A : Shifter) → Closed a onM s A → l .ss ≡ true → Closed a onM (clockOf s l) A
+  through-master s l A i h =
+      let c : s .control ≡ a = i .control in
+      let u : isMaster (s .control) ≡ true = ap isMaster c ∙ w .master in
+      let q : edgeAt s (l .sck) ≡ false = rw (u, i .left) refl in
+      let none : s .transfer .left .0 - 1 ≡ 0 = omega (arith, i .left) in
+      subst (λ (t : Spi). Closed a onM t A) (sym (clock-waits s l (ap isEnabled c ∙ onM) (kept-master s l c h) q))
+      (record {
+        control = c;
+        edges = i .edges;
+        left = ap (λ (t : Bool). pick t (record { 0 = s .transfer .left .0 - 1 }) (s .transfer .left) .0) u ∙ none;
+        received = i .received;
+        out = waited-out s (l .sck) ∙ out-view s (A .out) c (i .out);
+        spif = i .spif;
+      })
+
   module _ (x y : ℕ) where
-    -- the master has had j edges and the slave k; the slave's bit is out, and it knows SCK as it was after k
-    record Joint (p : Pair) (j k : ℕ) (A B : Shifter) : Type 0 where
-      master : At a onM (p .master) j A x
-      slave : At b onS (p .slave) k B y
-      miso : p .slave .pins .miso ≡ B .out
-      sck : p .slave .pins .sck ≡ levelAt rest k
-
-    module _ (p : Pair) (j k : ℕ) (A B : Shifter) (i : Joint p j k A B) where
-      abbrev l : Levels
-      l = busOf p true
-
-      abbrev r : Levels
-      r = busOf p false
-
-      keptM : isKept (p .master .control) l ≡ true
-      keptM = kept-master (p .master) l (i .master .control) refl
-
-      keptS : isKept (p .slave .control) r ≡ true
-      keptS = kept-slave (p .slave) r (i .slave .control) refl
-
-      input-master : inputOf a l ≡ B .out
-      input-master = rw (w .master) (bus-miso p true (i .slave .control) ∙ i .miso)
-
-      input-slave : inputOf b r ≡ A .out
-      input-slave = rw (w .slave) (bus-master p false (i .master .control) .0 ∙ out-master (p .master) A (i .master .control) (i .master .view))
-
-      joint-waits : edgeAt (p .master) (l .sck) ≡ false → Joint (turnOf p masterTurn) j k A B
-      joint-waits q = record { master = at-waits a onM (p .master) j A x (i .master) l keptM q .at; slave = i .slave; miso = i .miso; sck = i .sck }
-
-      joint-goes : edgeAt (p .master) (l .sck) ≡ true → j < 15 → Joint (turnOf p masterTurn) (j + 1) k (edgeOf m A (j + 1) (B .out)) B
-      joint-goes q h = record {
-        master =
-            subst (λ (o : Bool). At a onM (clockOf (p .master) l) (j + 1) (edgeOf m A (j + 1) o) x) input-master
-            (at-goes a onM (p .master) j A x (i .master) l keptM q h .at);
-        slave = i .slave;
-        miso = i .miso;
-        sck = i .sck;
-      }
-
-      joint-ends : edgeAt (p .master) (l .sck) ≡ true → j ≡ 15 → Closed a onM (clockOf (p .master) l) (edgeOf m A 16 (B .out))
-      joint-ends q h =
-          subst (λ (o : Bool). Closed a onM (clockOf (p .master) l) (edgeOf m A 16 o)) input-master (at-ends a onM (p .master) j A x (i .master) l keptM q h)
-
-      sck-at : r .sck ≡ levelAt rest j
-      sck-at = bus-sck p false j (i .master .control) (i .master .edges)
-
-      slave-quiet : j ≡ k → Joint (turnOf p slaveTurn) j k A B
-      slave-quiet h =
-          let q : edgeAt (p .slave) (r .sck) ≡ false =
-          slave-sees (p .slave) k (levelAt rest k) (r .sck) (i .slave .control) (i .slave .edges) (i .sck)
-          ∙ ap (λ (t : Bool). isEdge rest k (levelAt rest k) t) (sck-at ∙ ap (levelAt rest) h) ∙ no-edge rest k (levelAt rest k) in
-          let v = at-waits b onS (p .slave) k B y (i .slave) r keptS q in
-          record {
-            master = i .master;
-            slave = v .at;
-            miso = put-slave (clockOf (p .slave) r) (B .out) (v .at .control) (v .out);
-            sck = sck-at ∙ ap (levelAt rest) h;
-          }
-
-      seen-edge : j ≡ k + 1 → edgeAt (p .slave) (r .sck) ≡ true
-      seen-edge h =
-          slave-sees (p .slave) k (levelAt rest k) (r .sck) (i .slave .control) (i .slave .edges) (i .sck)
-          ∙ ap (λ (t : Bool). isEdge rest k (levelAt rest k) t) (sck-at ∙ ap (levelAt rest) h) ∙ level-turns rest k
-
-      slave-edge : j ≡ k + 1 → k < 15 → Joint (turnOf p slaveTurn) j (k + 1) A (edgeOf m B (k + 1) (A .out))
-      slave-edge h lt =
-          let v = at-goes b onS (p .slave) k B y (i .slave) r keptS (seen-edge h) lt in
-          let e : edgeOf (modeOf b) B (k + 1) (inputOf b r) ≡ edgeOf m B (k + 1) (A .out) =
-          ap (λ (n : Mode). edgeOf n B (k + 1) (inputOf b r)) (w .mode) ∙ ap (λ (o : Bool). edgeOf m B (k + 1) o) input-slave in
-          record {
-            master = i .master;
-            slave = subst (λ (z : Shifter). At b onS (clockOf (p .slave) r) (k + 1) z y) e (v .at);
-            miso = put-slave (clockOf (p .slave) r) _ (v .at .control) (v .out ∙ ap (λ (z : Shifter). z .out) e);
-            sck = sck-at ∙ ap (levelAt rest) h;
-          }
-
-    -- the master is through, and the slave has edge 16 to see
-    record Ending (p : Pair) (A B : Shifter) : Type 0 where
-      master : Closed a onM (p .master) A
-      slave : At b onS (p .slave) 15 B y
-      sck : p .slave .pins .sck ≡ levelAt rest 15
+    -- a slave k edges into a byte, its bit out, which knows SCK as it was after k
+    record Heard (s : Spi) (k : ℕ) (B : Shifter) : Type 0 where
+      at : At b onS s k B y
+      miso : s .pins .miso ≡ B .out
+      sck : s .pins .sck ≡ levelAt rest k
 
     record Through (s : Spi) (z : ℕ) : Type 0 where
       control : s .control ≡ b
@@ -223,60 +173,101 @@ module _ (a b : Control) (w : Linked a b) where
       left : s .transfer .left .0 ≡ 0
       received : s .transfer .received ≡ z
       spif : isUp (s .flags .spif) ≡ true
+      sck : s .pins .sck ≡ levelAt rest 0
 
-    -- both are through
-    record Over (p : Pair) (A B : Shifter) : Type 0 where
-      master : Closed a onM (p .master) A
-      slave : Through (p .slave) (B .shift)
-      sck : p .slave .pins .sck ≡ levelAt rest 0
+    module _ (p : Pair) where
+      abbrev l : Levels
+      l = busOf p true
 
-    ending-seen : (p : Pair) (A B : Shifter) → Ending p A B → Over (turnOf p slaveTurn) A (edgeOf m B 16 (A .out))
-    ending-seen p A B i =
-        let r : Levels = busOf p false in
-        let at0 : r .sck ≡ levelAt rest 0 = bus-sck p false 0 (i .master .control) (i .master .edges) in
-        let q : edgeAt (p .slave) (r .sck) ≡ true =
-        slave-sees (p .slave) 15 (levelAt rest 15) (r .sck) (i .slave .control) (i .slave .edges) (i .sck)
-        ∙ ap (λ (t : Bool). isEdge rest 15 (levelAt rest 15) t) at0 ∙ level-turns rest 15 in
-        let o : inputOf b r ≡ A .out =
-        rw (w .slave) (bus-master p false (i .master .control) .0 ∙ put-master (p .master) (A .out) (i .master .control) (i .master .out)) in
-        let v = at-ends b onS (p .slave) 15 B y (i .slave) r (kept-slave (p .slave) r (i .slave .control) refl) q refl in
-        let e : edgeOf (modeOf b) B 16 (inputOf b r) ≡ edgeOf m B 16 (A .out) =
-        ap (λ (n : Mode). edgeOf n B 16 (inputOf b r)) (w .mode) ∙ ap (λ (t : Bool). edgeOf m B 16 t) o in
-        record {
-          master = i .master;
-          slave = record {
-            control = v .control;
-            edges = v .edges;
-            left = v .left;
-            received = v .received ∙ ap (λ (z : Shifter). z .shift) e;
-            spif = v .spif;
-          };
-          sck = at0;
-        }
+      abbrev r : Levels
+      r = busOf p false
 
-    over-stays : (p : Pair) (A B : Shifter) → Over p A B → Over (turnOf p slaveTurn) A B
-    over-stays p A B i =
-        let r : Levels = busOf p false in
-        let c : p .slave .control ≡ b = i .slave .control in
-        let at0 : r .sck ≡ levelAt rest 0 = bus-sck p false 0 (i .master .control) (i .master .edges) in
-        let q : edgeAt (p .slave) (r .sck) ≡ false =
-        slave-sees (p .slave) 0 (levelAt rest 0) (r .sck) c (i .slave .edges) (i .sck) ∙ ap (λ (t : Bool). isEdge rest 0 (levelAt rest 0) t) at0
-        ∙ no-edge rest 0 (levelAt rest 0) in
-        let u : isMaster (p .slave .control) ≡ false = ap isMaster c ∙ w .slave in
-        let v = clock-waits (p .slave) r (ap isEnabled c ∙ onS) (kept-slave (p .slave) r c refl) q in
-        record {
-          master = i .master;
-          slave =
-              subst (λ (s : Spi). Through s (B .shift)) (sym v)
-              (record {
-                control = c;
-                edges = i .slave .edges;
-                left = ap (λ (t : Bool). pick t (record { 0 = p .slave .transfer .left .0 - 1 }) (p .slave .transfer .left) .0) u ∙ i .slave .left;
-                received = i .slave .received;
-                spif = i .slave .spif;
-              });
-          sck = at0;
-        }
+      slave-edge-at : (k : ℕ) (last now : Bool) → p .slave .control ≡ b → p .slave .transfer .edges ≡ k → p .slave .pins .sck ≡ last → r .sck ≡ now
+          → edgeAt (p .slave) (r .sck) ≡ isEdge rest k last now
+      slave-edge-at k last now c e h g = slave-sees (p .slave) k last (r .sck) c e h ∙ ap (λ (t : Bool). isEdge rest k last t) g
+
+      module _ (j k : ℕ) (A B : Shifter) (i : At a onM (p .master) j A x) (h : Heard (p .slave) k B) where
+        keptM : isKept (p .master .control) l ≡ true
+        keptM = kept-master (p .master) l (i .control) refl
+
+        keptS : isKept (p .slave .control) r ≡ true
+        keptS = kept-slave (p .slave) r (h .at .control) refl
+
+        input-master : inputOf a l ≡ B .out
+        input-master = rw (w .master) (bus-miso p true (h .at .control) ∙ h .miso)
+
+        input-slave : inputOf b r ≡ A .out
+        input-slave = rw (w .slave) (bus-master p false (i .control) .0 ∙ out-master (p .master) A (i .control) (i .view))
+
+        master-quiet : edgeAt (p .master) (l .sck) ≡ false → At a onM (clockOf (p .master) l) j A x
+        master-quiet q = at-waits a onM (p .master) j A x i l keptM q .at
+
+        master-edge : edgeAt (p .master) (l .sck) ≡ true → j < 15 → At a onM (clockOf (p .master) l) (j + 1) (edgeOf m A (j + 1) (B .out)) x
+        master-edge q lt =
+            subst (λ (o : Bool). At a onM (clockOf (p .master) l) (j + 1) (edgeOf m A (j + 1) o) x) input-master (at-goes a onM (p .master) j A x i l keptM q lt .at)
+
+        master-last : edgeAt (p .master) (l .sck) ≡ true → j ≡ 15 → Closed a onM (clockOf (p .master) l) (edgeOf m A 16 (B .out))
+        master-last q e =
+            subst (λ (o : Bool). Closed a onM (clockOf (p .master) l) (edgeOf m A 16 o)) input-master (at-ends a onM (p .master) j A x i l keptM q e)
+
+        sck-at : r .sck ≡ levelAt rest j
+        sck-at = bus-sck p false j (i .control) (i .edges)
+
+        slave-quiet : j ≡ k → Heard (clockOf (p .slave) r) k B
+        slave-quiet e =
+            let now : r .sck ≡ levelAt rest k = sck-at ∙ ap (levelAt rest) e in
+            let q = slave-edge-at k (levelAt rest k) (levelAt rest k) (h .at .control) (h .at .edges) (h .sck) now ∙ no-edge rest k (levelAt rest k) in
+            let v = at-waits b onS (p .slave) k B y (h .at) r keptS q in
+            record { at = v .at; miso = put-slave (clockOf (p .slave) r) (B .out) (v .at .control) (v .out); sck = now }
+
+        slave-edge : j ≡ k + 1 → k < 15 → Heard (clockOf (p .slave) r) (k + 1) (edgeOf m B (k + 1) (A .out))
+        slave-edge e lt =
+            let now : r .sck ≡ levelAt rest (k + 1) = sck-at ∙ ap (levelAt rest) e in
+            let q = slave-edge-at k (levelAt rest k) (levelAt rest (k + 1)) (h .at .control) (h .at .edges) (h .sck) now ∙ level-turns rest k in
+            let v = at-goes b onS (p .slave) k B y (h .at) r keptS q lt in
+            let g : edgeOf (modeOf b) B (k + 1) (inputOf b r) ≡ edgeOf m B (k + 1) (A .out) =
+            ap (λ (n : Mode). edgeOf n B (k + 1) (inputOf b r)) (w .mode) ∙ ap (λ (o : Bool). edgeOf m B (k + 1) o) input-slave in
+            record {
+              at = subst (λ (z : Shifter). At b onS (clockOf (p .slave) r) (k + 1) z y) g (v .at);
+              miso = put-slave (clockOf (p .slave) r) _ (v .at .control) (v .out ∙ ap (λ (z : Shifter). z .out) g);
+              sck = now;
+            }
+
+      module _ (A : Shifter) (i : Closed a onM (p .master) A) where
+        sck-rests : r .sck ≡ levelAt rest 0
+        sck-rests = bus-sck p false 0 (i .control) (i .edges)
+
+        slave-last : (B : Shifter) → Heard (p .slave) 15 B → Through (clockOf (p .slave) r) (edgeOf m B 16 (A .out) .shift)
+        slave-last B h =
+            let q = slave-edge-at 15 (levelAt rest 15) (levelAt rest 0) (h .at .control) (h .at .edges) (h .sck) sck-rests ∙ level-turns rest 15 in
+            let o : inputOf b r ≡ A .out =
+            rw (w .slave) (bus-master p false (i .control) .0 ∙ put-master (p .master) (A .out) (i .control) (i .out)) in
+            let v = at-ends b onS (p .slave) 15 B y (h .at) r (kept-slave (p .slave) r (h .at .control) refl) q refl in
+            let g : edgeOf (modeOf b) B 16 (inputOf b r) ≡ edgeOf m B 16 (A .out) =
+            ap (λ (n : Mode). edgeOf n B 16 (inputOf b r)) (w .mode) ∙ ap (λ (t : Bool). edgeOf m B 16 t) o in
+            record {
+              control = v .control;
+              edges = v .edges;
+              left = v .left;
+              received = v .received ∙ ap (λ (z : Shifter). z .shift) g;
+              spif = v .spif;
+              sck = sck-rests;
+            }
+
+        through-slave : (z : ℕ) → Through (p .slave) z → Through (clockOf (p .slave) r) z
+        through-slave z h =
+            let c : p .slave .control ≡ b = h .control in
+            let q = slave-edge-at 0 (levelAt rest 0) (levelAt rest 0) c (h .edges) (h .sck) sck-rests ∙ no-edge rest 0 (levelAt rest 0) in
+            let u : isMaster (p .slave .control) ≡ false = ap isMaster c ∙ w .slave in
+            subst (λ (s : Spi). Through s z) (sym (clock-waits (p .slave) r (ap isEnabled c ∙ onS) (kept-slave (p .slave) r c refl) q))
+            (record {
+              control = c;
+              edges = h .edges;
+              left = ap (λ (t : Bool). pick t (record { 0 = p .slave .transfer .left .0 - 1 }) (p .slave .transfer .left) .0) u ∙ h .left;
+              received = h .received;
+              spif = h .spif;
+              sck = sck-rests;
+            })
 
     -- where the pair is: both have had k edges; the master one more; the master is through; both are. The master has n + 1 edges to go, the
     -- next in d + 1 of its clocks
@@ -286,14 +277,17 @@ module _ (a b : Control) (w : Linked a b) where
       ending : (A B : Shifter) → Stage
       over : (A B : Shifter) → Stage
 
-    abbrev DueIn : Pair → ℕ → ℕ → Type 0
-    DueIn p k d = Due a onM (w .master) (p .master) k d
+    -- a master with j edges had, n + 1 to go, and the next in d + 1 clocks
+    record Going (s : Spi) (j n d : ℕ) (A : Shifter) : Type 0 where
+      at : At a onM s j A x
+      due : Due a onM (w .master) s j (suc d)
+      sum : j + suc n ≡ 16
 
     abbrev Holds : Stage → Pair → Type 0
-    Holds (level k n d A B) p = Joint p k k A B × (DueIn p k (suc d) × (k + suc n ≡ 16))
-    Holds (ahead k n d A B) p = Joint p (k + 1) k A B × (DueIn p (k + 1) (suc d) × (k + 1 + suc n ≡ 16))
-    Holds (ending A B) p = Ending p A B
-    Holds (over A B) p = Over p A B
+    Holds (level k n d A B) p = Going (p .master) k n d A × Heard (p .slave) k B
+    Holds (ahead k n d A B) p = Going (p .master) (k + 1) n d A × Heard (p .slave) k B
+    Holds (ending A B) p = Closed a onM (p .master) A × Heard (p .slave) 15 B
+    Holds (over A B) p = Closed a onM (p .master) A × Through (p .slave) (B .shift)
 
     abbrev turnsLeft : Stage → ℕ
     turnsLeft (level k n d A B) = suc d + n * half a
@@ -317,62 +311,120 @@ module _ (a b : Control) (w : Linked a b) where
     half-pos : half a ≡ suc (half a - 1)
     half-pos = omega (arith, half-of (numberOf a) .low)
 
-    not-due : (p : Pair) (k d : ℕ) → DueIn p k (suc (suc d)) → edgeAt (p .master) (busOf p true .sck) ≡ false
-    not-due p k d f = due-edge a onM (w .master) (p .master) k (suc (suc d)) (busOf p true .sck) f ∙ ne-eqb (suc (suc d)) 1 (λ z. omega arith)
+    module _ (p : Pair) (j k : ℕ) (A B : Shifter) (h : Heard (p .slave) k B) where
+      not-due : (n d : ℕ) → Going (p .master) j n (suc d) A → edgeAt (p .master) (busOf p true .sck) ≡ false
+      not-due n d g =
+          due-edge a onM (w .master) (p .master) j (suc (suc d)) (busOf p true .sck) (g .due) ∙ ne-eqb (suc (suc d)) 1 (λ z. omega arith)
 
-    is-due : (p : Pair) (k : ℕ) → DueIn p k 1 → edgeAt (p .master) (busOf p true .sck) ≡ true
-    is-due p k f = due-edge a onM (w .master) (p .master) k 1 (busOf p true .sck) f
+      is-due : (n : ℕ) → Going (p .master) j n zero A → edgeAt (p .master) (busOf p true .sck) ≡ true
+      is-due n g = due-edge a onM (w .master) (p .master) j 1 (busOf p true .sck) (g .due)
 
-    run : (ts : List Turn) (p : Pair) (g : Stage) → Holds g p → masterTurns ts ≡ turnsLeft g → isSeen (isUnseen g) p ts ≡ true
+      going-waits : (n d : ℕ) → Going (p .master) j n (suc d) A → Going (clockOf (p .master) (busOf p true)) j n d A
+      going-waits n d g = record {
+        at = master-quiet p j k A B (g .at) h (not-due n d g);
+        due = due-waits a onM (w .master) (p .master) (busOf p true) j d (g .due) (keptM p j k A B (g .at) h);
+        sum = g .sum;
+      }
+
+      going-on : (n : ℕ) → Going (p .master) j (suc n) zero A
+          → Going (clockOf (p .master) (busOf p true)) (j + 1) n (half a - 1) (edgeOf m A (j + 1) (B .out))
+      going-on n g =
+          let lt : j < 15 = omega (arith, g .sum) in
+          record {
+            at = master-edge p j k A B (g .at) h (is-due (suc n) g) lt;
+            due =
+                subst (λ (d : ℕ). Due a onM (w .master) (clockOf (p .master) (busOf p true)) (j + 1) d) half-pos
+                (due-goes a onM (w .master) (p .master) (busOf p true) j (g .due) (keptM p j k A B (g .at) h) lt);
+            sum = omega (arith, g .sum);
+          }
+
+    -- the last edge of the master
+    module _ (p : Pair) (k : ℕ) (A B : Shifter) (g : Going (p .master) k zero zero A) (h : Heard (p .slave) k B) where
+      k-15 : k ≡ 15
+      k-15 = omega (arith, g .sum)
+
+      closes : Closed a onM (clockOf (p .master) (busOf p true)) (edgeOf m A 16 (B .out))
+      closes = master-last p k k A B (g .at) h (is-due p k k A B h zero g) k-15
+
+      -- the same aim, said of edge 16
+      at-16 : (q : Pair) → Swapped q (aim (ending (edgeOf m A 16 (B .out)) B) .slave .shift) (aim (ending (edgeOf m A 16 (B .out)) B) .master .shift)
+          → Swapped q (aim (level k zero zero A B) .slave .shift) (aim (level k zero zero A B) .master .shift)
+      at-16 q v =
+          subst (λ (i : ℕ). Swapped q (aim (level i zero zero A B) .slave .shift) (aim (level i zero zero A B) .master .shift)) (sym k-15) v
+
+      heard-15 : (s : Spi) → Heard s k B → Heard s 15 B
+      heard-15 s i = subst (λ (n : ℕ). Heard s n B) k-15 i
+
+    run : (ts : List Turn) (p : Pair) (g : Stage) → Holds g p → turnsLeft g ≤ masterTurns ts → isSeen (isUnseen g) p ts ≡ true
         → Swapped (finalPair p ts) (aim g .slave .shift) (aim g .master .shift)
     run [] p (level k n d A B) h e s = absurd (omega arith)
     run [] p (ahead k n d A B) h e s = absurd (let z : _≡_ {A = ℕ} 0 1 = cc in omega arith)
     run [] p (ending A B) h e s = absurd (let z : _≡_ {A = ℕ} 0 1 = cc in omega arith)
     run [] p (over A B) h e s = record {
-      master = h .master .received;
-      slave = h .slave .received;
-      spifMaster = h .master .spif;
-      spifSlave = h .slave .spif;
-      idleMaster = idle-of (p .master .transfer) (h .master .edges) (h .master .left);
-      idleSlave = idle-of (p .slave .transfer) (h .slave .edges) (h .slave .left);
+      master = h .0 .received;
+      slave = h .1 .received;
+      spifMaster = h .0 .spif;
+      spifSlave = h .1 .spif;
+      idleMaster = idle-of (p .master .transfer) (h .0 .edges) (h .0 .left);
+      idleSlave = idle-of (p .slave .transfer) (h .1 .edges) (h .1 .left);
     }
     run (masterTurn ∷ ts) p (level k n (suc d) A B) h e s =
-        let q = not-due p k d (h .1 .0) in
-        let f = due-waits a onM (w .master) (p .master) (busOf p true) k d (h .1 .0) (keptM p k k A B (h .0)) in
-        run ts (turnOf p masterTurn) (level k n d A B) (joint-waits p k k A B (h .0) q, (f, h .1 .1)) (omega arith) (rw q at s)
+        let q = not-due p k k A B (h .1) n d (h .0) in
+        run ts (turnOf p masterTurn) (level k n d A B) (going-waits p k k A B (h .1) n d (h .0), h .1) (omega arith) (rw q at s)
     run (masterTurn ∷ ts) p (level k (suc n) zero A B) h e s =
-        let q = is-due p k (h .1 .0) in
-        let f = due-goes a onM (w .master) (p .master) (busOf p true) k (h .1 .0) (keptM p k k A B (h .0)) (omega (arith, h .1 .1)) in
-        let i = joint-goes p k k A B (h .0) q (omega (arith, h .1 .1)) in
-        run ts (turnOf p masterTurn) (ahead k n (half a - 1) (edgeOf m A (k + 1) (B .out)) B)
-        (i, (subst (λ (d : ℕ). DueIn (turnOf p masterTurn) (k + 1) d) half-pos f, omega (arith, h .1 .1))) (omega (arith, half-pos)) (rw q at s)
+        let q = is-due p k k A B (h .1) (suc n) (h .0) in
+        run ts (turnOf p masterTurn) (ahead k n (half a - 1) (edgeOf m A (k + 1) (B .out)) B) (going-on p k k A B (h .1) n (h .0), h .1)
+        (omega (arith, half-pos)) (rw q at s)
     run (masterTurn ∷ ts) p (level k zero zero A B) h e s =
-        let q = is-due p k (h .1 .0) in
-        let k15 : k ≡ 15 = omega (arith, h .1 .1) in
-        let c = joint-ends p k k A B (h .0) q k15 in
-        let i : Ending (turnOf p masterTurn) (edgeOf m A 16 (B .out)) B = record {
-          master = c;
-          slave = subst (λ (j : ℕ). At b onS (p .slave) j B y) k15 (h .0 .slave);
-          sck = h .0 .sck ∙ ap (levelAt rest) k15;
-        } in
-        let v = run ts (turnOf p masterTurn) (ending (edgeOf m A 16 (B .out)) B) i (omega arith) (rw q at s) in
-        subst (λ (j : ℕ). Swapped (finalPair (turnOf p masterTurn) ts) (aim (level j zero zero A B) .slave .shift) (aim (level j zero zero A B) .master .shift)) (sym k15) v
+        let q = is-due p k k A B (h .1) zero (h .0) in
+        at-16 p k A B (h .0) (h .1) (finalPair (turnOf p masterTurn) ts)
+        (run ts (turnOf p masterTurn) (ending (edgeOf m A 16 (B .out)) B)
+        (closes p k A B (h .0) (h .1), heard-15 p k A B (h .0) (h .1) (p .slave) (h .1)) (omega arith) (rw q at s))
     run (masterTurn ∷ ts) p (ahead k n (suc d) A B) h e s =
-        let q = not-due p (k + 1) d (h .1 .0) in
-        let f = due-waits a onM (w .master) (p .master) (busOf p true) (k + 1) d (h .1 .0) (keptM p (k + 1) k A B (h .0)) in
-        run ts (turnOf p masterTurn) (ahead k n d A B) (joint-waits p (k + 1) k A B (h .0) q, (f, h .1 .1)) (omega arith) (rw q at s)
+        let q = not-due p (k + 1) k A B (h .1) n d (h .0) in
+        run ts (turnOf p masterTurn) (ahead k n d A B) (going-waits p (k + 1) k A B (h .1) n d (h .0), h .1) (omega arith) (rw q at s)
     run (masterTurn ∷ ts) p (ahead k n zero A B) h e s =
-        let q = is-due p (k + 1) (h .1 .0) in
+        let q = is-due p (k + 1) k A B (h .1) n (h .0) in
         absurd (let u : _≡_ {A = Bool} false true = rw q at s in let z : _≡_ {A = ℕ} 0 1 = cc in omega arith)
-    run (masterTurn ∷ ts) p (ending A B) h e s = absurd (omega arith)
-    run (masterTurn ∷ ts) p (over A B) h e s = absurd (omega arith)
+    run (masterTurn ∷ ts) p (ending A B) h e s =
+        run ts (turnOf p masterTurn) (ending A B) (through-master (p .master) (busOf p true) A (h .0) refl, h .1) (omega arith) (rw (no-more p A (h .0)) at s)
+    run (masterTurn ∷ ts) p (over A B) h e s =
+        run ts (turnOf p masterTurn) (over A B) (through-master (p .master) (busOf p true) A (h .0) refl, h .1) (omega arith) (rw (no-more p A (h .0)) at s)
     run (slaveTurn ∷ ts) p (level k n d A B) h e s =
-        run ts (turnOf p slaveTurn) (level k n d A B) (slave-quiet p k k A B (h .0) refl, (h .1 .0, h .1 .1)) e s
+        run ts (turnOf p slaveTurn) (level k n d A B) (h .0, slave-quiet p k k A B (h .0 .at) (h .1) refl) e s
     run (slaveTurn ∷ ts) p (ahead k n d A B) h e s =
         run ts (turnOf p slaveTurn) (level (k + 1) n d A (edgeOf m B (k + 1) (A .out)))
-        (slave-edge p (k + 1) k A B (h .0) refl (omega (arith, h .1 .1)), (h .1 .0, h .1 .1)) e s
-    run (slaveTurn ∷ ts) p (ending A B) h e s = run ts (turnOf p slaveTurn) (over A (edgeOf m B 16 (A .out))) (ending-seen p A B h) e s
-    run (slaveTurn ∷ ts) p (over A B) h e s = run ts (turnOf p slaveTurn) (over A B) (over-stays p A B h) e s
+        (h .0, slave-edge p (k + 1) k A B (h .0 .at) (h .1) refl (omega (arith, h .0 .sum))) e s
+    run (slaveTurn ∷ ts) p (ending A B) h e s =
+        run ts (turnOf p slaveTurn) (over A (edgeOf m B 16 (A .out))) (h .0, slave-last p A (h .0) B (h .1)) e s
+    run (slaveTurn ∷ ts) p (over A B) h e s = run ts (turnOf p slaveTurn) (over A B) (h .0, through-slave p A (h .0) (B .shift) (h .1)) e s
+    run (bothTurn ∷ ts) p (level k n (suc d) A B) h e s =
+        let q = not-due p k k A B (h .1) n d (h .0) in
+        run ts (turnOf p bothTurn) (level k n d A B) (going-waits p k k A B (h .1) n d (h .0), slave-quiet p k k A B (h .0 .at) (h .1) refl)
+        (omega arith) (rw q at s)
+    run (bothTurn ∷ ts) p (level k (suc n) zero A B) h e s =
+        let q = is-due p k k A B (h .1) (suc n) (h .0) in
+        run ts (turnOf p bothTurn) (ahead k n (half a - 1) (edgeOf m A (k + 1) (B .out)) B)
+        (going-on p k k A B (h .1) n (h .0), slave-quiet p k k A B (h .0 .at) (h .1) refl) (omega (arith, half-pos)) (rw q at s)
+    run (bothTurn ∷ ts) p (level k zero zero A B) h e s =
+        let q = is-due p k k A B (h .1) zero (h .0) in
+        at-16 p k A B (h .0) (h .1) (finalPair (turnOf p bothTurn) ts)
+        (run ts (turnOf p bothTurn) (ending (edgeOf m A 16 (B .out)) B)
+        (closes p k A B (h .0) (h .1), heard-15 p k A B (h .0) (h .1) (clockOf (p .slave) (busOf p false)) (slave-quiet p k k A B (h .0 .at) (h .1) refl))
+        (omega arith) (rw q at s))
+    run (bothTurn ∷ ts) p (ahead k n (suc d) A B) h e s =
+        let q = not-due p (k + 1) k A B (h .1) n d (h .0) in
+        run ts (turnOf p bothTurn) (level (k + 1) n d A (edgeOf m B (k + 1) (A .out)))
+        (going-waits p (k + 1) k A B (h .1) n d (h .0), slave-edge p (k + 1) k A B (h .0 .at) (h .1) refl (omega (arith, h .0 .sum))) (omega arith) (rw q at s)
+    run (bothTurn ∷ ts) p (ahead k n zero A B) h e s =
+        let q = is-due p (k + 1) k A B (h .1) n (h .0) in
+        absurd (let u : _≡_ {A = Bool} false true = rw q at s in let z : _≡_ {A = ℕ} 0 1 = cc in omega arith)
+    run (bothTurn ∷ ts) p (ending A B) h e s =
+        run ts (turnOf p bothTurn) (over A (edgeOf m B 16 (A .out)))
+        (through-master (p .master) (busOf p true) A (h .0) refl, slave-last p A (h .0) B (h .1)) (omega arith) (rw (no-more p A (h .0)) at s)
+    run (bothTurn ∷ ts) p (over A B) h e s =
+        run ts (turnOf p bothTurn) (over A B)
+        (through-master (p .master) (busOf p true) A (h .0) refl, through-slave p A (h .0) (B .shift) (h .1)) (omega arith) (rw (no-more p A (h .0)) at s)
 
 -- a slave that is ready shows what it would put out
 shows : (t : Spi) → isMaster (t .control) ≡ false → Ready t → viewOf t .out ≡ t .pins .miso
@@ -384,7 +436,7 @@ shows t sl rd = rw (sl, eq-eqb (t .transfer .edges) 0 (rd .idle)) (by (modeOf (t
     by false h = h refl
 
 -- the master's SPDR is written, and after 16·h of its clocks both have the other's byte
-pub wired : (s t : Spi) (v : ℕ) (ts : List Turn) → MayStart s v → Linked (s .control) (t .control) → Ready t → masterTurns ts ≡ 16 * half (s .control)
+pub wired : (s t : Spi) (v : ℕ) (ts : List Turn) → MayStart s v → Linked (s .control) (t .control) → Ready t → 16 * half (s .control) ≤ masterTurns ts
     → isSeen false (record { master = writeSpdr s v; slave = t }) ts ≡ true
     → Swapped (finalPair (record { master = writeSpdr s v; slave = t }) ts) v (t .transfer .shift)
 unfolding differs
@@ -396,19 +448,24 @@ wired s t v ts ms w rd e u =
     let B : Shifter = record { shift = t .transfer .shift; out = t .pins .miso } in
     let h : half a ≡ suc (half a - 1) = half-pos a (t .control) w 0 0 in
     let first : viewOf t .out ≡ t .pins .miso = shows t (w .slave) rd in
-    let i : Joint a (t .control) w (writeSpdr s v .transfer .received) (t .transfer .received) p 0 0 A B = record {
-      master = record { control = g .control; edges = g .edges; view = refl; received = refl };
-      slave = record { control = refl; edges = rd .idle; view = ap (λ (o : Bool). record { shift = t .transfer .shift; out = o }) first; received = refl };
+    let x : ℕ = writeSpdr s v .transfer .received in
+    let y : ℕ = t .transfer .received in
+    let i : Going a (t .control) w x y (writeSpdr s v) 0 15 (half a - 1) A = record {
+      at = record { control = g .control; edges = g .edges; view = refl; received = refl };
+      due = record { control = g .control; edges = g .edges; left = g .left ∙ h };
+      sum = refl;
+    } in
+    let o : Heard a (t .control) w x y t 0 B = record {
+      at = record { control = refl; edges = rd .idle; view = ap (λ (z : Bool). record { shift = t .transfer .shift; out = z }) first; received = refl };
       miso = refl;
       sck = rd .rest ∙ w .cpol;
     } in
-    let d : Due a (w .enabledMaster) (w .master) (writeSpdr s v) 0 (suc (half a - 1)) = record { control = g .control; edges = g .edges; left = g .left ∙ h } in
-    let r = run a (t .control) w (writeSpdr s v .transfer .received) (t .transfer .received) ts p (level 0 15 (half a - 1) A B) (i, (d, refl)) (omega arith) u in
+    let r = run a (t .control) w x y ts p (level 0 15 (half a - 1) A B) (i, o) (omega (arith, e, h)) u in
     let ps : Presented (modeOf a) B = subst (λ (n : Mode). n .cpha ≡ false → t .pins .miso ≡ outBit (n .dord) (t .transfer .shift)) (w .mode) (rd .first) in
-    let x = swaps (modeOf a) (record { master = A; slave = B }) (subst (λ (n : ℕ). n < 256) (sym (g .shift)) (ms .byte)) (rd .byte) (g .presented) ps in
+    let z = swaps (modeOf a) (record { master = A; slave = B }) (subst (λ (n : ℕ). n < 256) (sym (g .shift)) (ms .byte)) (rd .byte) (g .presented) ps in
     record {
-      master = r .master ∙ x .master;
-      slave = r .slave ∙ x .slave ∙ g .shift;
+      master = r .master ∙ z .master;
+      slave = r .slave ∙ z .slave ∙ g .shift;
       spifMaster = r .spifMaster;
       spifSlave = r .spifSlave;
       idleMaster = r .idleMaster;
@@ -425,7 +482,87 @@ in-turn-count : (n : ℕ) → masterTurns (inTurn n) ≡ n
 in-turn-count zero = refl
 in-turn-count (suc n) = ap suc (in-turn-count n)
 
+at-once-count : (n : ℕ) → masterTurns (atOnce n) ≡ n
+at-once-count zero = refl
+at-once-count (suc n) = ap suc (at-once-count n)
+
 -- so for every divisor
 pub wired-in-turn : (s t : Spi) (v : ℕ) → MayStart s v → Linked (s .control) (t .control) → Ready t
     → Swapped (finalPair (record { master = writeSpdr s v; slave = t }) (inTurn (16 * half (s .control)))) v (t .transfer .shift)
-wired-in-turn s t v ms w rd = wired s t v (inTurn (16 * half (s .control))) ms w rd (in-turn-count (16 * half (s .control))) (in-turn-seen (16 * half (s .control)) _)
+wired-in-turn s t v ms w rd =
+    let n : ℕ = 16 * half (s .control) in
+    wired s t v (inTurn n) ms w rd (omega (arith, in-turn-count n)) (in-turn-seen n (record { master = writeSpdr s v; slave = t }))
+
+-- clocked at once the slave sees an edge one clock after it comes, so the edges have to be two clocks apart
+module _ (a b : Control) (w : Linked a b) (two : 2 ≤ half a) where
+  record Rested (s : Spi) : Type 0 where
+    control : s .control ≡ a
+    left : s .transfer .left .0 ≡ 0
+
+  rested-edge : (p : Pair) → Rested (p .master) → edgeAt (p .master) (busOf p true .sck) ≡ false
+  rested-edge p i = rw (ap isMaster (i .control) ∙ w .master, i .left) refl
+
+  rested-clock : (s : Spi) (l : Levels) → Rested s → edgeAt s (l .sck) ≡ false → l .ss ≡ true → Rested (clockOf s l)
+  rested-clock s l i q h =
+      let u : isMaster (s .control) ≡ true = ap isMaster (i .control) ∙ w .master in
+      let none : s .transfer .left .0 - 1 ≡ 0 = omega (arith, i .left) in
+      subst (λ (t : Spi). Rested t) (sym (clock-waits s l (ap isEnabled (i .control) ∙ w .enabledMaster) (kept-master a b w s l (i .control) h) q))
+      (record { control = i .control; left = ap (λ (t : Bool). pick t (record { 0 = s .transfer .left .0 - 1 }) (s .transfer .left) .0) u ∙ none })
+
+  rested-last : (s : Spi) (l : Levels) → Due a (w .enabledMaster) (w .master) s 15 1 → l .ss ≡ true → Rested (clockOf s l)
+  rested-last s l d h =
+      let q = due-edge a (w .enabledMaster) (w .master) s 15 1 (l .sck) d in
+      subst (λ (t : Spi). Rested t) (sym (clock-ends s l (ap isEnabled (d .control) ∙ w .enabledMaster) (kept-master a b w s l (d .control) h) q (d .edges)))
+      (record { control = d .control; left = refl })
+
+  rested-seen : (n : ℕ) (p : Pair) → Rested (p .master) → isSeen false p (atOnce n) ≡ true
+  rested-seen zero p i = refl
+  rested-seen (suc n) p i =
+      let q = rested-edge p i in rw q (rested-seen n (turnOf p bothTurn) (rested-clock (p .master) (busOf p true) i q refl))
+
+  -- n clocks are enough for the edges after the k-th, the next of which is in j + 1
+  at-once-seen : (n : ℕ) (unseen : Bool) (p : Pair) (k j : ℕ) → Due a (w .enabledMaster) (w .master) (p .master) k (suc j) → k ≤ 15 → (unseen ≡ true → 1 ≤ j)
+      → suc (suc j) + (15 - k) * half a ≤ n → isSeen unseen p (atOnce n) ≡ true
+  at-once-seen zero unseen p k j d hk hu e = absurd (omega arith)
+  at-once-seen (suc n) unseen p k (suc j) d hk hu e =
+      let q : edgeAt (p .master) (busOf p true .sck) ≡ false =
+      due-edge a (w .enabledMaster) (w .master) (p .master) k (suc (suc j)) (busOf p true .sck) d ∙ ne-eqb (suc (suc j)) 1 (λ z. omega arith) in
+      let f = due-waits a (w .enabledMaster) (w .master) (p .master) (busOf p true) k j d (kept-master a b w (p .master) (busOf p true) (d .control) refl) in
+      rw q (at-once-seen n false (turnOf p bothTurn) k j f hk (λ z. absurd (let y : _≡_ {A = ℕ} 0 1 = cc in omega arith)) (omega arith))
+  at-once-seen (suc n) true p k zero d hk hu e = absurd (omega (arith, hu refl))
+  at-once-seen (suc n) false p k zero d hk hu e =
+      let q = due-edge a (w .enabledMaster) (w .master) (p .master) k 1 (busOf p true .sck) d in
+      let kept = kept-master a b w (p .master) (busOf p true) (d .control) refl in
+      split (eqb k 15)
+      (λ z. let k15 : k ≡ 15 = eqb-true k 15 z in
+      let i = rested-last (p .master) (busOf p true) (subst (λ (i : ℕ). Due a (w .enabledMaster) (w .master) (p .master) i 1) k15 d) refl in
+      rw q (last n i (omega (arith, e))))
+      (λ z. let lt : k < 15 = omega (arith, eqb-false k 15 z) in
+      let f = due-goes a (w .enabledMaster) (w .master) (p .master) (busOf p true) k d kept lt in
+      let g : half a ≡ suc (half a - 1) = omega (arith, two) in
+      let m : (15 - k) * half a ≡ half a + (15 - (k + 1)) * half a = more (15 - k) (15 - (k + 1)) (omega arith) in
+      rw q (at-once-seen n true (turnOf p bothTurn) (k + 1) (half a - 1)
+      (subst (λ (i : ℕ). Due a (w .enabledMaster) (w .master) (clockOf (p .master) (busOf p true)) (k + 1) i) g f) (omega arith) (λ _. omega (arith, two))
+      (omega (arith, e, m, two))))
+    where
+      last : (i : ℕ) → Rested (clockOf (p .master) (busOf p true)) → 1 ≤ i → isSeen true (turnOf p bothTurn) (atOnce i) ≡ true
+      last zero r h = absurd (omega arith)
+      last (suc i) r h =
+          let q = rested-edge (turnOf p bothTurn) r in
+          rw q (rested-seen i (turnOf (turnOf p bothTurn) bothTurn) (rested-clock (clockOf (p .master) (busOf p true)) (busOf (turnOf p bothTurn) true) r q refl))
+
+      more : (x y : ℕ) → x ≡ suc y → x * half a ≡ half a + y * half a
+      more x y h = rw h (omega arith)
+
+-- so for every divisor but 2, with one more clock for the slave to see the last edge
+pub wired-at-once : (s t : Spi) (v : ℕ) → MayStart s v → Linked (s .control) (t .control) → Ready t → 2 ≤ half (s .control)
+    → Swapped (finalPair (record { master = writeSpdr s v; slave = t }) (atOnce (16 * half (s .control) + 1))) v (t .transfer .shift)
+wired-at-once s t v ms w rd two =
+    let n : ℕ = 16 * half (s .control) + 1 in
+    let p : Pair = record { master = writeSpdr s v; slave = t } in
+    let g : Begun s v (writeSpdr s v) = begun s v ms in
+    let d : Due (s .control) (w .enabledMaster) (w .master) (writeSpdr s v) 0 (suc (half (s .control) - 1)) =
+    record { control = g .control; edges = g .edges; left = g .left ∙ omega (arith, two) } in
+    wired s t v (atOnce n) ms w rd (omega (arith, at-once-count n))
+    (at-once-seen (s .control) (t .control) w two n false p 0 (half (s .control) - 1) d (omega arith)
+    (λ z. absurd (let y : _≡_ {A = ℕ} 0 1 = cc in omega arith)) (omega (arith, two)))

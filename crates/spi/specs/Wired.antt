@@ -29,14 +29,16 @@ abbrev pub busOf : Pair → Bool → Levels
 busOf p ss =
     record { miso = wire (outputOf (p .slave) false) 4; mosi = wire (outputOf (p .master) true) 2; sck = wire (outputOf (p .master) true) 8; ss = ss }
 
--- a clock of the one or of the other
+-- a clock of the one, of the other, or of both at once
 pub data Turn : Type 0 where
   masterTurn : Turn
   slaveTurn : Turn
+  bothTurn : Turn
 
 abbrev pub turnOf : Pair → Turn → Pair
 turnOf p masterTurn = record { master = clockOf (p .master) (busOf p true); slave = p .slave }
 turnOf p slaveTurn = record { master = p .master; slave = clockOf (p .slave) (busOf p false) }
+turnOf p bothTurn = record { master = clockOf (p .master) (busOf p true); slave = clockOf (p .slave) (busOf p false) }
 
 abbrev pub finalPair : Pair → List Turn → Pair
 finalPair p [] = p
@@ -46,19 +48,27 @@ abbrev pub masterTurns : List Turn → ℕ
 masterTurns [] = 0
 masterTurns (masterTurn ∷ ts) = suc (masterTurns ts)
 masterTurns (slaveTurn ∷ ts) = masterTurns ts
+masterTurns (bothTurn ∷ ts) = suc (masterTurns ts)
 
--- the slave can see every edge: it has a clock between each edge of the master and the next, and after the last. `unseen` is whether
--- an edge waits for it
+-- the slave can see every edge: it has a clock after each edge of the master and before the next, and after the last. `unseen` is whether
+-- an edge waits for it; in a clock of both it sees the levels before
 abbrev pub isSeen : Bool → Pair → List Turn → Bool
 isSeen unseen p [] = not unseen
 isSeen unseen p (masterTurn ∷ ts) =
     pick (edgeAt (p .master) (busOf p true .sck)) (pick unseen false (isSeen true (turnOf p masterTurn) ts)) (isSeen unseen (turnOf p masterTurn) ts)
 isSeen unseen p (slaveTurn ∷ ts) = isSeen false (turnOf p slaveTurn) ts
+isSeen unseen p (bothTurn ∷ ts) =
+    pick (edgeAt (p .master) (busOf p true .sck)) (pick unseen false (isSeen true (turnOf p bothTurn) ts)) (isSeen false (turnOf p bothTurn) ts)
 
 -- n clocks of each, in turn
 abbrev pub inTurn : ℕ → List Turn
 inTurn zero = []
 inTurn (suc n) = masterTurn ∷ slaveTurn ∷ inTurn n
+
+-- n clocks of both at once
+abbrev pub atOnce : ℕ → List Turn
+atOnce zero = []
+atOnce (suc n) = bothTurn ∷ atOnce n
 
 -- both enabled, of one mode and polarity, each driving its pins
 pub record Linked (a b : Control) : Type 0 where
