@@ -5,13 +5,11 @@ use mathlib.Core.List.{List, [], _∷_}
 use mathlib.Core.Path.{_≡_, refl, sym, ap, ap₂, _∙_}
 use native.Mathlib.Nat.{div-one, div-eq-of-lt, div-div-eq-div-mul}
 use native.Mathlib.Omega.{arith}
-use lib.Dec.{eqb}
 use lib.ListN.{length, getD}
 use borrow.Author.Tests.{eqb-true, eqb-false}
 use Rattle.choice.specs.Pick.{pick}
-use Rattle.choice.proofs.Picks.{pick-ind}
 use Rattle.shifter.specs.Order.{bitOf, bitsOf}
-use Rattle.shifter.specs.Edge.{isSampling, edgeOf}
+use Rattle.shifter.specs.Edge.{isSampling}
 use Rattle.shifter.specs.Byte.{afterEdges, sampledAt, shownAt, Exchanges, Joined, joinedEdge, joinedEdges, Swaps}
 use Rattle.shifter.specs.declared.Mode.{Mode}
 use Rattle.shifter.specs.declared.Shifter.{Shifter}

@@ -1,10 +1,10 @@
 -- One clock of an enabled SPI whose SS is kept, of master and slave alike: a quiet clock, an edge, and edge 16.
-use Prim.Native.Nat.{ℕ, zero, suc, _+_, _-_, _<_}
+use Prim.Native.Nat.{ℕ, _+_, _-_, _<_}
 use mathlib.Core.Bool.{Bool, true, false, not}
 use mathlib.Core.Path.{_≡_, refl, sym, ap, subst, _∙_}
 use native.Mathlib.Omega.{arith}
-use lib.Dec.{eqb, ltb}
-use borrow.Author.Tests.{eqb-true, eqb-false, eq-eqb, ne-eqb, lt-ltb, le-ltb}
+use lib.Dec.{eqb}
+use borrow.Author.Tests.{eqb-true, ne-eqb, lt-ltb, le-ltb}
 use Rattle.choice.specs.Pick.{pick}
 use Rattle.shifter.specs.Order.{outBit}
 use Rattle.shifter.specs.Edge.{edgeOf}
@@ -18,7 +18,6 @@ use Rattle.spi.specs.Exchange.{edgeAt, inputOf, outOf}
 use Rattle.spi.specs.declared.clock.Levels.{Levels}
 use Rattle.spi.specs.declared.control.Control.{Control}
 use Rattle.spi.specs.declared.divisor.Clocks.{Clocks}
-use Rattle.spi.specs.declared.flag.Flags.{Flags}
 use Rattle.spi.specs.declared.transfer.Transfer.{Transfer}
 use Rattle.spi.specs.declared.transfer.Edged.{Edged}
 use Rattle.spi.specs.declared.unit.Spi.{Spi}

@@ -1,6 +1,6 @@
 -- What drops a byte under way, and that a dropped one is gone: the next begins anew, with the shift register as it stands.
 use Prim.Native.Nat.{ℕ, _/_, _%_, _*_, _+_}
-use mathlib.Core.Bool.{Bool, true, false}
+use mathlib.Core.Bool.{true, false}
 use mathlib.Core.Path.{_≡_, refl, sym, subst}
 use native.Mathlib.Omega.{arith}
 use borrow.Author.Tests.{ne-eqb}

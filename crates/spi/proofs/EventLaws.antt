@@ -6,10 +6,9 @@ use native.Mathlib.Omega.{arith}
 use Rattle.choice.specs.Pick.{pick}
 use Rattle.choice.proofs.Picks.{pick-ind}
 use Rattle.spi.specs.Flag.{isUp, armedOf, clearedOf}
-use Rattle.spi.specs.Transfer.{isUnderWay}
 use Rattle.spi.specs.Unit.{isRequested}
 use Rattle.spi.specs.Register.{settled, collided, loadedOf, accessed, writeOf, readOf, vectorOf}
-use Rattle.spi.specs.Event.{Event, clock, write, read, vector, nextOf, isRefused, isCollision, isHarmless}
+use Rattle.spi.specs.Event.{write, read, vector, nextOf, isRefused, isCollision, isHarmless}
 use Rattle.spi.specs.declared.flag.Flag.{Flag}
 use Rattle.spi.specs.declared.flag.Flag.the-variants.{Clear, Set, Armed}
 use Rattle.spi.specs.declared.unit.Spi.{Spi}

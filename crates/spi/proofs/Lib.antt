@@ -6,5 +6,7 @@ pub mod Progress
 pub mod DropLaws
 pub mod WholeByte
 pub mod Transfers
+pub mod BusLaws
 pub mod WiredLaws
+pub mod WiredTurns
 pub mod Witness

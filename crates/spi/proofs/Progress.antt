@@ -1,6 +1,6 @@
 -- Where an enabled unit is within a byte, and how a clock moves it.
 use Prim.Native.Nat.{ℕ, _+_, _<_}
-use mathlib.Core.Bool.{Bool, true, false}
+use mathlib.Core.Bool.{true, false}
 use mathlib.Core.Path.{_≡_, refl, sym, ap, subst, _∙_}
 use borrow.Author.Tests.{eq-eqb}
 use Rattle.shifter.specs.Edge.{edgeOf}

@@ -7,13 +7,12 @@ use native.Mathlib.Omega.{arith}
 use lib.Dec.{eqb, lit≤}
 use borrow.Author.Tests.{eq-eqb, ne-eqb}
 use Rattle.choice.specs.Pick.{pick}
-use Rattle.choice.proofs.Picks.{pick-ind, split, both}
-use Rattle.shifter.specs.Order.{outBit}
+use Rattle.choice.proofs.Picks.{pick-ind, both}
 use Rattle.shifter.proofs.Byte.{Presented}
 use Rattle.spi.specs.Control.{isEnabled, isMaster, modeOf, numberOf, half}
 use Rattle.spi.specs.Divisor.{halfOf}
 use Rattle.spi.specs.Clock.{clockOf}
-use Rattle.spi.specs.Register.{filled, withMosi, startedOf, loadedOf, accessed, writeSpdr}
+use Rattle.spi.specs.Register.{startedOf, loadedOf, accessed, writeSpdr}
 use Rattle.spi.specs.Event.{Event, clock, write, read, vector, nextOf, clocksIn, isKept, isHarmless, isUndisturbed}
 use Rattle.spi.specs.Exchange.{edgeAt, isUpTo, SetsSpif, Exchanges, MayStart, MayTake}
 use Rattle.spi.specs.declared.clock.Levels.{Levels}

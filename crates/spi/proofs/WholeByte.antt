@@ -15,16 +15,13 @@ use Rattle.shifter.specs.Byte as shifter
 use Rattle.shifter.specs.declared.Shifter.{Shifter}
 use Rattle.shifter.proofs.Byte.{Presented, whole-byte, out-kept}
 use Rattle.spi.specs.Control.{isEnabled, modeOf}
-use Rattle.spi.specs.Flag.{isUp, raisedOf}
+use Rattle.spi.specs.Flag.{isUp}
 use Rattle.spi.specs.Clock.{clockOf}
-use Rattle.spi.specs.Event.{Event, clock, write, read, vector, nextOf, finalOf, isKept, isHarmless, isUndisturbed}
-use Rattle.spi.specs.Exchange.{inputOf, outOf, edgeAt, isEdgeIn, inputIn, outIn, inputsAt, outsAt, isUpTo, Exchanges}
+use Rattle.spi.specs.Event.{Event, clock, write, read, vector, nextOf, finalOf, isHarmless, isUndisturbed}
+use Rattle.spi.specs.Exchange.{inputOf, isEdgeIn, inputIn, outIn, inputsAt, outsAt, isUpTo, Exchanges}
 use Rattle.spi.specs.declared.clock.Levels.{Levels}
 use Rattle.spi.specs.declared.control.Control.{Control}
 use Rattle.spi.specs.declared.flag.Flags.{Flags}
-use Rattle.spi.specs.declared.flag.Flag.{Flag}
-use Rattle.spi.specs.declared.flag.Flag.the-variants.{Clear, Set, Armed}
-use Rattle.spi.specs.declared.transfer.Transfer.{Transfer}
 use Rattle.spi.specs.declared.unit.Spi.{Spi}
 use Rattle.spi.proofs.ClockLaws.{viewOf}
 use Rattle.spi.proofs.EventLaws.{Same, write-same, read-same, vector-same}

@@ -2,7 +2,7 @@
 use Prim.Native.Nat.{ℕ, zero, suc}
 use mathlib.Core.Bool.{Bool, true, false}
 use mathlib.Core.List.{List, [], _∷_, _++_}
-use mathlib.Core.Path.{_≡_, refl}
+use mathlib.Core.Path.{refl}
 use lib.Dec.{lit<}
 use Rattle.shifter.specs.Order.{outBit, shiftedIn}
 use Rattle.shifter.specs.Edge.{isSampling, isPutting, edgeOf}
@@ -19,7 +19,7 @@ use Rattle.spi.specs.declared.flag.Flag.the-variants.{Clear}
 use Rattle.spi.specs.declared.unit.Spi.{Spi}
 use Rattle.spi.specs.declared.register.Register.the-variants.{Spcr, Spsr, Spdr}
 use Rattle.spi.proofs.Transfers.{master-exchanges, slave-exchanges}
-use Rattle.spi.proofs.WiredLaws.{wired-in-turn}
+use Rattle.spi.proofs.WiredTurns.{wired-in-turn}
 
 -- enabled, with these SPCR and DDRB and x in the shift register
 unfoldable pub unit : ℕ → ℕ → ℕ → Spi
