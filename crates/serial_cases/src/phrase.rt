@@ -1,19 +1,10 @@
 // The words of a case's line.
 use crate::expected::Setup;
-use crate::print::decimal;
-use crate::print::hex;
-use crate::print::text;
 use crate::step::word_at;
-
-pub fn number(words: &[u8], n: u64) {
-    text(words);
-    decimal(n);
-}
-
-pub fn digits(words: &[u8], n: u64, width: usize) {
-    text(words);
-    hex(n, width);
-}
+use print::decimal;
+use print::digits;
+use print::number;
+use print::text;
 
 fn parity_name(upm: u8) {
     match upm {
