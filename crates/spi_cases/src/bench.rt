@@ -1,0 +1,89 @@
+// A unit, the levels on its pins, and what is seen of it from outside.
+use spi::Levels;
+use spi::Register;
+use spi::Spi;
+
+pub struct Bench {
+    pub spi: Spi,
+    pub pins: Levels,
+    // Clocks that began with SPIF clear.
+    pub quiet: u16,
+}
+
+fn counted(n: u16, more: bool) -> u16 {
+    if more {
+        return std::num::wrapping_add_u16(n, 1);
+    }
+    n
+}
+
+// Reading SPSR arms the flags only in the unit that comes back, which is left here.
+fn spif(s: Spi) -> bool {
+    s.read(Register::Spsr).value / 128 == 1
+}
+
+impl Bench {
+    pub fn spif(self) -> bool {
+        spif(self.spi)
+    }
+
+    pub fn output(self) -> u8 {
+        self.spi.output(self.pins.ss)
+    }
+
+    pub fn with_spi(self, s: Spi) -> Bench {
+        let p = self.pins;
+        Bench {
+            spi: s,
+            pins: p,
+            quiet: self.quiet,
+        }
+    }
+
+    pub fn with_pins(self, p: Levels) -> Bench {
+        let s = self.spi;
+        Bench {
+            spi: s,
+            pins: p,
+            quiet: self.quiet,
+        }
+    }
+
+    pub fn clock(self) -> Bench {
+        let s = self.spi;
+        let p = self.pins;
+        Bench {
+            spi: s.clock(p),
+            pins: p,
+            quiet: counted(self.quiet, !spif(s)),
+        }
+    }
+
+    pub fn clocks(self, n: u16) -> Bench {
+        let mut b = self;
+        for _ in 0..n {
+            b = b.clock();
+        }
+        b
+    }
+
+    // The level on SCK turned, and a clock.
+    pub fn edge(self) -> Bench {
+        let p = self.pins;
+        self.with_pins(Levels {
+                miso: p.miso,
+                mosi: p.mosi,
+                sck: !p.sck,
+                ss: p.ss,
+            })
+            .clock()
+    }
+
+    pub fn edges(self, n: u16) -> Bench {
+        let mut b = self;
+        for _ in 0..n {
+            b = b.edge();
+        }
+        b
+    }
+}

@@ -1,0 +1,113 @@
+// Runs the steps of cases, and prints a line for each case.
+use crate::act::acted;
+use crate::bench::Bench;
+use crate::phrase;
+use crate::step::KIND;
+use crate::step::byte_at;
+use print::number;
+use print::text;
+use print::verdict;
+use spi::Levels;
+use spi::Register;
+use spi::Spi;
+use spi::Written;
+
+// The unit under test with its pins, and whether all that came out so far was as expected.
+struct Course {
+    bench: Bench,
+    ok: bool,
+}
+
+fn set(s: Spi, register: Register, v: u8) -> Spi {
+    match s.write(register, v) {
+        Written::Done(n) => n,
+        Written::Refused(_) => s,
+    }
+}
+
+fn prepared(n: u64) -> Spi {
+    if n == 0 {
+        return Spi::reset();
+    }
+    let d = set(Spi::reset(), Register::Ddrb, byte_at(n / 0x100));
+    set(d, Register::Spcr, byte_at(n))
+}
+
+fn new_course(n: u64) -> Course {
+    let b = Bench {
+        spi: prepared(n),
+        pins: Levels {
+            miso: false,
+            mosi: false,
+            sck: false,
+            ss: true,
+        },
+        quiet: 0,
+    };
+    Course { bench: b, ok: true }
+}
+
+// The words of what begins or ends a line.
+fn line(kind: u64, n: u64, ok: bool) {
+    match kind {
+        0 => verdict(ok),
+        1 => {
+            number(b"M", n);
+            text(b", ");
+        }
+        2 => phrase::reset(n),
+        _ => text(b"then"),
+    }
+}
+
+// A case is judged by itself, also where it goes on with the unit of the one before.
+fn begun(c: Course, kind: u64, n: u64) -> Course {
+    line(kind, n, c.ok);
+    if kind == 2 {
+        return new_course(n);
+    }
+    let b = c.bench;
+    Course {
+        bench: b,
+        ok: c.ok || kind == 0,
+    }
+}
+
+// What has to come out.
+fn expected(kind: u64, n: u64) -> u64 {
+    match kind {
+        7 => n % 0x1_0000,
+        8 => n / 0x100_0000 % 0x100 * 0x100 + n % 0x100,
+        9 => n % 0x10,
+        10 => n % 0x100,
+        _ => 0,
+    }
+}
+
+fn stepped(c: Course, kind: u64, n: u64) -> Course {
+    phrase::done(kind, n);
+    let a = acted(c.bench, kind, n);
+    phrase::came(kind, a.came);
+    let b = a.bench;
+    Course {
+        bench: b,
+        ok: c.ok && a.came == expected(kind, n),
+    }
+}
+
+fn taken(c: Course, step: u64) -> Course {
+    let kind = step / KIND;
+    if kind < 4 {
+        return begun(c, kind, step % KIND);
+    }
+    stepped(c, kind, step % KIND)
+}
+
+pub fn play(steps: &[u64]) {
+    let mut c = new_course(0);
+    let mut i = 0;
+    while i < steps.len() {
+        c = taken(c, steps[i]);
+        i += 1;
+    }
+}
