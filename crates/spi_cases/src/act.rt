@@ -107,7 +107,7 @@ fn clock_of(b: Bench, n: u64, level: bool) -> u16 {
 // The byte that the other side got, and above it the clock that brought SPIF.
 fn exchange(b: Bench, n: u64) -> Seen {
     let spcr = byte_at(n / 0x1_0000);
-    let s = exchanged(b, spcr, byte_at(n / 0x1_0000_0000), byte_at(n / 0x100));
+    let s = exchanged(b, spcr, byte_at(n / 0x1000_0000), byte_at(n / 0x100));
     let c = s.bench;
     let byte = s.byte(spcr) as u64;
     if c.spif() {

@@ -17,7 +17,7 @@ use crate::step::SPIF_ON;
 use crate::step::SPSR_IS;
 use crate::step::SS;
 
-const CASES: [u64; 75] = [
+const CASES: [u64; 78] = [
     // Before edge 1.
     MASTER + 0x50,
     SPDR + 0xa3_0,
@@ -55,7 +55,7 @@ const CASES: [u64; 75] = [
     SPDR_IS + 0x00,
     SPIF_ON + 32,
     END,
-    // A slave with 1 and 15 edges seen.
+    // A slave with 1, 2 and 15 edges seen.
     SLAVE + 0x40,
     SPDR + 0xa3_0,
     MOSI + 1,
@@ -63,7 +63,10 @@ const CASES: [u64; 75] = [
     EDGES + 1,
     SPDR + 0x00_0,
     SPSR_IS + 0x40,
-    EDGES + 14,
+    EDGES + 1,
+    SPDR + 0x00_0,
+    SPSR_IS + 0x40,
+    EDGES + 13,
     SPDR + 0x00_0,
     SPSR_IS + 0x40,
     EDGES + 1,

@@ -51,3 +51,11 @@ pub fn pause(clocks: u8, edge: u8) -> u16
     }
     (clocks - 1) as u16
 }
+
+// The clock of edge 16. The uneven pauses of 16 edges are three times 10 clocks, and 3.
+pub fn spif_clock(clocks: u8) -> u16 {
+    if clocks == 0 {
+        return 33 + 16;
+    }
+    16 * clocks as u16
+}

@@ -10,7 +10,7 @@ use crate::step::SPDR_IS;
 use crate::step::SPSR;
 use crate::step::SPSR_IS;
 
-const CASES: [u64; 85] = [
+const CASES: [u64; 81] = [
     // High bit first, h = 2.
     MASTER + 0x50,
     OUTPUT_IS + 0xa0,
@@ -85,17 +85,13 @@ const CASES: [u64; 85] = [
     SPDR_IS + 0x1e,
     OUTPUT_IS + 0xa8,
     END,
-    // Bytes in a row.
+    // Bytes in a row: the first one received is read while the second goes out.
     MASTER + 0x50,
-    SPDR + 0xff_0,
-    BY_TWO + 0x50_00_ff,
-    SPSR_IS + 0x80,
-    SPDR_IS + 0x00,
-    SPDR + 0x00_0,
-    BY_TWO + 0x50_ff_00,
+    SPDR + 0xfe_0,
+    BY_TWO + 0x50_7f_fe,
     SPSR_IS + 0x80,
     SPDR + 0x01_0,
-    SPDR_IS + 0xff,
+    SPDR_IS + 0x7f,
     BY_TWO + 0x50_80_01,
     SPDR_IS + 0x80,
     END,

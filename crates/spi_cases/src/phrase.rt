@@ -38,9 +38,9 @@ fn pin(n: u64) {
     number(b"", n % 0x10);
 }
 
-fn counted(n: u64, words: &[u8]) {
-    number(b", ", n);
-    text(words);
+fn counted(before: &[u8], n: u64, thing: &[u8]) {
+    number(before, n);
+    text(thing);
     if n != 1 {
         text(b"s");
     }
@@ -71,14 +71,28 @@ pub fn reset(n: u64) {
     }
 }
 
+fn pace(n: u64) {
+    if n == 0 {
+        text(b", edges uneven");
+    } else {
+        counted(b", edges ", n, b" clock");
+        text(b" apart");
+    }
+}
+
+fn sends(n: u64) {
+    digits(b", other side sends ", n / 0x100 % 0x100, 2);
+    pace(n / 0x1000_0000);
+}
+
 // What a step does.
 pub fn done(kind: u64, n: u64) {
     match kind {
         4 => pin(n),
-        5 => counted(n, b" clock"),
-        6 => counted(n, b" edge"),
+        5 => counted(b", ", n, b" clock"),
+        6 => counted(b", ", n, b" edge"),
         7 => signal(n),
-        8 => digits(b", other side sends ", n / 0x100 % 0x100, 2),
+        8 => sends(n),
         9 => write(n),
         _ => register(n / 0x100),
     }

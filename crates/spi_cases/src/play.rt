@@ -1,6 +1,7 @@
 // Runs the steps of cases, and prints a line for each case.
 use crate::act::acted;
 use crate::bench::Bench;
+use crate::expected::spif_clock;
 use crate::phrase;
 use crate::step::KIND;
 use crate::step::byte_at;
@@ -73,11 +74,19 @@ fn begun(c: Course, kind: u64, n: u64) -> Course {
     }
 }
 
+// The byte that the other side gets, and above it the clock that brings SPIF.
+fn exchange(n: u64) -> u64 {
+    if n / 0x100_0000 % 0x10 == 1 {
+        return n % 0x100;
+    }
+    spif_clock(byte_at(n / 0x1000_0000)) as u64 * 0x100 + n % 0x100
+}
+
 // What has to come out.
 fn expected(kind: u64, n: u64) -> u64 {
     match kind {
         7 => n % 0x1_0000,
-        8 => n / 0x100_0000 % 0x100 * 0x100 + n % 0x100,
+        8 => exchange(n),
         9 => n % 0x10,
         10 => n % 0x100,
         _ => 0,

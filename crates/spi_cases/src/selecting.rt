@@ -14,29 +14,8 @@ use crate::step::SPDR_IS;
 use crate::step::SPSR_IS;
 use crate::step::SS;
 
-const CASES: [u64; 110] = [
+const CASES: [u64; 102] = [
     // The first edge must be a leading one: rising with CPOL 0, falling with CPOL 1.
-    SLAVE + 0x40,
-    SCK + 1,
-    CLOCKS + 1,
-    SS + 0,
-    CLOCKS + 1,
-    EDGES + 1,
-    SPCR + 0x44_0,
-    SPCR + 0x40_0,
-    EDGES + 1,
-    SPCR + 0x44_4,
-    END,
-    SLAVE + 0x48,
-    SS + 0,
-    CLOCKS + 1,
-    EDGES + 1,
-    SPCR + 0x4c_0,
-    SPCR + 0x48_0,
-    EDGES + 1,
-    SPCR + 0x4c_4,
-    END,
-    // A byte counts from its leading edge.
     SLAVE + 0x40,
     SPDR + 0xa3_0,
     SCK + 1,
@@ -44,7 +23,19 @@ const CASES: [u64; 110] = [
     SS + 0,
     CLOCKS + 1,
     EDGES + 1,
+    SPCR + 0x44_0,
+    SPCR + 0x40_0,
     FAST + 0x40_5d_a3,
+    SPDR_IS + 0x5d,
+    END,
+    SLAVE + 0x48,
+    SPDR + 0xa3_0,
+    SS + 0,
+    CLOCKS + 1,
+    EDGES + 1,
+    SPCR + 0x4c_0,
+    SPCR + 0x48_0,
+    FAST + 0x48_5d_a3,
     SPDR_IS + 0x5d,
     END,
     // With SS high no edge counts, but the level of SCK is kept: no edge where SS then goes low.

@@ -41,18 +41,17 @@ pub const SCK_LOW_ON: u64 = 7 * KIND + 0x10_0000;
 
 pub const SCK_HIGH_ON: u64 = 7 * KIND + 0x11_0000;
 
-// A byte exchanged with another side that keeps to the mode in SPCR. Digits: clocks an edge (0: uneven), the clock that brings SPIF (2; 0: it
-// is set before), SPCR (2), the byte that the other side sends (2), the byte that it gets (2).
-pub const FAST: u64 = 8 * KIND + 0x1_10_00_00_00;
+// A byte exchanged with another side that keeps to the mode in SPCR. Digits: clocks an edge (0: uneven), whether SPIF is set before, SPCR (2),
+// the byte that the other side sends (2), the byte that it gets (2).
+pub const FAST: u64 = 8 * KIND + 0x1_0_00_00_00;
 
-pub const BY_TWO: u64 = 8 * KIND + 0x2_20_00_00_00;
+pub const BY_TWO: u64 = 8 * KIND + 0x2_0_00_00_00;
 
-pub const SLOW: u64 = 8 * KIND + 0x5_50_00_00_00;
+pub const SLOW: u64 = 8 * KIND + 0x5_0_00_00_00;
 
-// The clocks before the edges, 33, and the 16 of the edges.
-pub const UNEVEN: u64 = 8 * KIND + 0x0_31_00_00_00;
+pub const UNEVEN: u64 = 8 * KIND + 0x0_0_00_00_00;
 
-pub const AGAIN: u64 = 8 * KIND + 0x1_00_00_00_00;
+pub const AGAIN: u64 = 8 * KIND + 0x1_1_00_00_00;
 
 // A write, or vector 1 taken. Digits: register, value (2), answer.
 pub const SPCR: u64 = 9 * KIND;
