@@ -23,6 +23,22 @@ pub fn digits(words: &[u8], n: u64, width: usize) {
     hex(n, width);
 }
 
+// Said only where there is something to say.
+pub fn unless_zero(words: &[u8], n: u64) {
+    if n != 0 {
+        number(words, n);
+    }
+}
+
+// The letters from one place to another.
+pub fn part(words: &[u8], at: usize, end: usize) {
+    if end <= words.len() {
+        if at <= end {
+            text(&words[at..end]);
+        }
+    }
+}
+
 // The end of a case's line.
 pub fn verdict(ok: bool) {
     if ok {

@@ -4,7 +4,9 @@ use crate::step::word_at;
 use print::decimal;
 use print::digits;
 use print::number;
+use print::part;
 use print::text;
+use print::unless_zero;
 
 fn parity_name(upm: u8) {
     match upm {
@@ -21,14 +23,6 @@ pub fn setup(s: Setup) {
     decimal(s.stop_bits() as u64);
     number(b" S=", s.samples() as u64);
     number(b" UBRR=", s.ubrr as u64);
-}
-
-fn part(words: &[u8], at: usize, end: usize) {
-    if end <= words.len() {
-        if at <= end {
-            text(&words[at..end]);
-        }
-    }
 }
 
 // The registers in the order of their digit, six letters each; UDR0 has four.
@@ -54,13 +48,6 @@ fn signal(n: u64) {
         1 => text(b", TxD driven"),
         2 => text(b", UDRE"),
         _ => text(b", TXC"),
-    }
-}
-
-// Said only where there is something to say.
-fn unless_zero(words: &[u8], n: u64) {
-    if n != 0 {
-        number(words, n);
     }
 }
 

@@ -70,13 +70,13 @@ impl Bench {
     // The level on SCK turned, and a clock.
     pub fn edge(self) -> Bench {
         let p = self.pins;
-        self.with_pins(Levels {
-                miso: p.miso,
-                mosi: p.mosi,
-                sck: !p.sck,
-                ss: p.ss,
-            })
-            .clock()
+        let turned = Levels {
+            miso: p.miso,
+            mosi: p.mosi,
+            sck: !p.sck,
+            ss: p.ss,
+        };
+        self.with_pins(turned).clock()
     }
 
     pub fn edges(self, n: u16) -> Bench {

@@ -17,7 +17,7 @@ use crate::step::SPIF_ON;
 use crate::step::SPSR_IS;
 use crate::step::SS;
 
-const CASES: [u64; 78] = [
+const CASES: [u64; 80] = [
     // Before edge 1.
     MASTER + 0x50,
     SPDR + 0xa3_0,
@@ -43,7 +43,7 @@ const CASES: [u64; 78] = [
     SPSR_IS + 0xc0,
     SPDR_IS + 0xff,
     END,
-    // On the clock before edge 16; after it a write starts a transfer.
+    // On the clock before edge 16. After it a write starts a transfer, and the next one collides; SPIF stays set.
     MASTER + 0x50,
     SPDR + 0xa3_0,
     CLOCKS + 31,
@@ -51,8 +51,10 @@ const CASES: [u64; 78] = [
     SPSR_IS + 0x40,
     CLOCKS + 1,
     SPDR + 0x5a_0,
-    SPSR_IS + 0x80,
+    SPDR + 0x00_0,
+    SPSR_IS + 0xc0,
     SPDR_IS + 0x00,
+    SPSR_IS + 0x00,
     SPIF_ON + 32,
     END,
     // A slave with 1, 2 and 15 edges seen.

@@ -3,6 +3,7 @@ use crate::play::play;
 use crate::step::BY_TWO;
 use crate::step::CLOCKS;
 use crate::step::DDRB;
+use crate::step::DDRB_IS;
 use crate::step::EDGES;
 use crate::step::END;
 use crate::step::MASTER;
@@ -19,7 +20,7 @@ use crate::step::SPSR_IS;
 use crate::step::SS;
 use crate::step::VECTOR;
 
-const CASES: [u64; 129] = [
+const CASES: [u64; 135] = [
     // SPSR alone clears nothing.
     MASTER + 0x50,
     SPDR + 0xa3_0,
@@ -28,26 +29,32 @@ const CASES: [u64; 129] = [
     SPSR_IS + 0x80,
     SPSR_IS + 0x80,
     END,
-    // SPDR alone clears nothing, after SPSR it clears.
+    // SPDR alone clears nothing, also after accesses to the others; after SPSR it clears.
     MASTER + 0x50,
     MISO + 1,
     SPDR + 0xa3_0,
     CLOCKS + 32,
+    SPCR_IS + 0x50,
+    DDRB_IS + 0x28,
+    SPSR + 0x00_0,
     SPDR_IS + 0xff,
     SPDR_IS + 0xff,
     SPSR_IS + 0x80,
     SPDR_IS + 0xff,
     SPSR_IS + 0x00,
     END,
-    // Other accesses and clocks between the two change nothing of that.
-    MASTER + 0x50,
+    // Between the two the others and clocks neither clear nor disarm; the report shows that SPIF stands.
+    MASTER + 0xd0,
     SPDR + 0xa3_0,
     CLOCKS + 32,
     SPSR_IS + 0x80,
-    SPCR_IS + 0x50,
+    SPCR_IS + 0xd0,
+    DDRB_IS + 0x28,
+    SPCR + 0xd0_0,
     DDRB + 0x28_0,
     SPSR + 0x00_0,
     CLOCKS + 5,
+    REPORT_IS + 0x08,
     SPDR_IS + 0x00,
     SPSR_IS + 0x00,
     END,

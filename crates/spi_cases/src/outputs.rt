@@ -12,7 +12,7 @@ use crate::step::SPCR;
 use crate::step::SPDR;
 use crate::step::SS;
 
-const CASES: [u64; 112] = [
+const CASES: [u64; 115] = [
     // A master drives MOSI and SCK, each by its bit of DDRB; undriven shows 0.
     RESET + 0x00_58,
     SPDR + 0x80_0,
@@ -54,29 +54,32 @@ const CASES: [u64; 112] = [
     CLOCKS + 1,
     OUTPUT_IS + 0x00,
     END,
-    // MOSI keeps its bit as slave and with SPE clear.
+    // MOSI keeps its bit while a slave's byte of zeros goes out, and with SPE clear.
     RESET + 0x38_50,
     SPDR + 0x01_0,
     CLOCKS + 32,
     OUTPUT_IS + 0xa2,
     SPCR + 0x40_0,
-    CLOCKS + 1,
-    OUTPUT_IS + 0x00,
+    SS + 0,
+    EDGES + 16,
+    OUTPUT_IS + 0x40,
     SPCR + 0x00_0,
+    SS + 1,
     CLOCKS + 1,
     OUTPUT_IS + 0x00,
     SPCR + 0x50_0,
     CLOCKS + 1,
     OUTPUT_IS + 0xa2,
     END,
-    // MISO keeps its bit as master; with CPHA 1 the slave puts out nothing before edge 1.
+    // MISO keeps its bit while a master's byte of zeros goes out; with CPHA 1 the slave puts out nothing before edge 1.
     RESET + 0x3c_40,
     SPDR + 0x80_0,
     SS + 0,
     CLOCKS + 1,
     OUTPUT_IS + 0x44,
     SPCR + 0x50_0,
-    CLOCKS + 1,
+    SPDR + 0x00_0,
+    CLOCKS + 32,
     OUTPUT_IS + 0xa0,
     SPCR + 0x44_0,
     CLOCKS + 1,

@@ -1,15 +1,10 @@
 // The words of a case's line.
+use print::decimal;
 use print::digits;
 use print::number;
+use print::part;
 use print::text;
-
-fn part(words: &[u8], at: usize, end: usize) {
-    if end <= words.len() {
-        if at <= end {
-            text(&words[at..end]);
-        }
-    }
-}
+use print::unless_zero;
 
 fn end_of_register(n: u64) -> usize {
     if n < 4 {
@@ -35,7 +30,7 @@ fn pin(n: u64) {
         2 => text(b", SCK="),
         _ => text(b", SS="),
     }
-    number(b"", n % 0x10);
+    decimal(n % 0x10);
 }
 
 fn counted(before: &[u8], n: u64, thing: &[u8]) {
@@ -98,19 +93,12 @@ pub fn done(kind: u64, n: u64) {
     }
 }
 
-// Said only where there is something to say: 0 is 'done', or no clock.
-fn unless_zero(words: &[u8], n: u64) {
-    if n != 0 {
-        number(words, n);
-    }
-}
-
 fn got(n: u64) {
     digits(b", gets ", n % 0x100, 2);
     unless_zero(b", SPIF on clock ", n / 0x100);
 }
 
-// What came out of it.
+// What came out of it. An answer of 0, done, is not printed.
 pub fn came(kind: u64, n: u64) {
     match kind {
         7 => number(b" on clock ", n),

@@ -18,7 +18,7 @@ use crate::step::SPSR;
 use crate::step::SPSR_IS;
 use crate::step::SS;
 
-const CASES: [u64; 41] = [
+const CASES: [u64; 43] = [
     // All registers after reset, no request, nothing driven.
     RESET,
     SPCR_IS + 0x00,
@@ -31,16 +31,18 @@ const CASES: [u64; 41] = [
     // SPCR and DDRB keep all bits; of SPSR only SPI2X is written.
     RESET,
     SPCR + 0xff_0,
-    SPCR_IS + 0xff,
     SPSR + 0xff_0,
-    SPSR_IS + 0x01,
     DDRB + 0xff_0,
+    SPCR_IS + 0xff,
+    SPSR_IS + 0x01,
     DDRB_IS + 0xff,
     SPCR + 0xa5_0,
     SPCR_IS + 0xa5,
-    SPSR + 0xfe_0,
-    SPSR_IS + 0x00,
+    SPSR_IS + 0x01,
     DDRB + 0x5a_0,
+    SPSR + 0xfe_0,
+    SPCR_IS + 0xa5,
+    SPSR_IS + 0x00,
     DDRB_IS + 0x5a,
     END,
     // Ignored: nothing starts, also when SPE is set later, and nothing is under way.
