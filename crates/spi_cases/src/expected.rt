@@ -1,6 +1,5 @@
 // What document 01 says of a byte on the wires, computed here anew: nothing of the code under test is called. A mode is given as SPCR has
 // it: DORD 0x20, MSTR 0x10, CPHA 0x04.
-ghost use Prim.Native.Nat.{_≤_};
 
 // With CPHA 0 odd edges sample; with CPHA 1 even ones.
 pub fn samples(spcr: u8, edge: u8) -> bool {
@@ -43,9 +42,7 @@ pub fn in_order(spcr: u8, x: u8) -> u8 {
 }
 
 // Clocks before the one of an edge, by the clocks an edge; uneven ones go 3, 1, 4, 2, 0.
-pub fn pause(clocks: u8, edge: u8) -> u16
-    ensures { λ r. ⌜ r ≤ 255 ⌝ }
-{
+pub fn pause(clocks: u8, edge: u8) -> u16 {
     if clocks == 0 {
         return edge as u16 * 3 % 5;
     }

@@ -7,6 +7,7 @@ use crate::expected::pause;
 use crate::expected::puts;
 use crate::expected::samples;
 use spi::Levels;
+ghost use Prim.Native.Nat.{_≤_};
 
 pub struct Side {
     pub bench: Bench,
@@ -29,7 +30,9 @@ fn wired(p: Levels, master: bool, bit: bool) -> Levels {
 }
 
 // What the unit sends: MOSI of a master, MISO of a slave.
-fn sent(master: bool, output: u8) -> u8 {
+fn sent(master: bool, output: u8) -> u8
+    ensures { λ r. ⌜ r ≤ 1 ⌝ }
+{
     if master {
         return output / 2 % 2;
     }
@@ -57,7 +60,7 @@ impl Side {
         Side {
             bench: b,
             rest: self.rest,
-            got: self.got % 128 * 2 + sent(is_master(spcr), output) % 2,
+            got: self.got % 128 * 2 + sent(is_master(spcr), output),
             edges: self.edges,
         }
     }
