@@ -2,10 +2,12 @@
 use Prim.Native.Nat.{ℕ, _+_, _*_, _/_, _%_, _<_, _≤_}
 use mathlib.Core.Bool.{Bool, true, false}
 use mathlib.Core.List.{List, [], _∷_, _++_}
-use mathlib.Core.Path.{_≡_, refl, ap, _∙_}
-use native.Mathlib.Nat.{div-one}
+use mathlib.Core.Path.{_≡_, refl, sym, ap, _∙_}
+use native.Mathlib.Nat.{div-one, div-eq-of-lt, div-div-eq-div-mul}
 use native.Mathlib.Omega.{arith}
 use lib.Dec.{eqb, lit≤}
+use lib.ListN.{getD}
+use borrow.Author.Tests.{eqb-true, eqb-false}
 use Rattle.choice.specs.Pick.{digit}
 use Rattle.shifter.specs.Order.{outBit, shiftedIn, bitOf, bitsOf}
 
@@ -59,3 +61,40 @@ pub shifted-lt : (dord : Bool) (x : ℕ) (b : Bool) → x < 256 → shiftedIn do
 unfolding shiftedIn
 shifted-lt true x b h = let d = digit-le b in omega arith
 shifted-lt false x b h = let d = digit-le b in omega arith
+
+both-zero : (a b : ℕ) → (a % 2 ≡ 1 → ⊥) → (b % 2 ≡ 1 → ⊥) → a % 2 ≡ b % 2
+both-zero a b na nb = omega arith
+
+-- a byte is known by its bits
+same-bit : (x y w : ℕ) → bitOf x w ≡ bitOf y w → x / w % 2 ≡ y / w % 2
+same-bit x y w e = by (bitOf y w) refl
+  where
+    by : (t : Bool) → bitOf y w ≡ t → x / w % 2 ≡ y / w % 2
+    by true h = eqb-true (x / w % 2) 1 (e ∙ h) ∙ sym (eqb-true (y / w % 2) 1 h)
+    by false h = both-zero (x / w) (y / w) (eqb-false (x / w % 2) 1 (e ∙ h)) (eqb-false (y / w % 2) 1 h)
+
+-- the bit at place n of a list
+abbrev bitAt : ℕ → List Bool → Bool
+bitAt n bs = getD bs n false
+
+-- two numbers are the same if their halves and their last bits are
+halves : (x y w : ℕ) → x / (w * 2) ≡ y / (w * 2) → bitOf x w ≡ bitOf y w → x / w ≡ y / w
+halves x y w h e = by (x / w) (y / w) (div-div-eq-div-mul x w 2 ∙ h ∙ sym (div-div-eq-div-mul y w 2)) (same-bit x y w e)
+  where
+    by : (a b : ℕ) → a / 2 ≡ b / 2 → a % 2 ≡ b % 2 → a ≡ b
+    by a b p q = omega arith
+
+same-byte : (x y : ℕ) → x < 256 → y < 256 → bitOf x 1 ≡ bitOf y 1 → bitOf x 2 ≡ bitOf y 2 → bitOf x 4 ≡ bitOf y 4 → bitOf x 8 ≡ bitOf y 8
+    → bitOf x 16 ≡ bitOf y 16 → bitOf x 32 ≡ bitOf y 32 → bitOf x 64 ≡ bitOf y 64 → bitOf x 128 ≡ bitOf y 128 → x ≡ y
+same-byte x y hx hy a b c d e f g h =
+    let top : x / 256 ≡ y / 256 = div-eq-of-lt hx ∙ sym (div-eq-of-lt hy) in
+    sym (div-one x)
+    ∙ halves x y 1 (halves x y 2 (halves x y 4 (halves x y 8 (halves x y 16 (halves x y 32 (halves x y 64 (halves x y 128 top h) g) f) e) d) c) b) a
+    ∙ div-one y
+
+pub bits-injective : (dord : Bool) (x y : ℕ) → x < 256 → y < 256 → bitsOf dord x ≡ bitsOf dord y → x ≡ y
+unfolding bitsOf
+bits-injective true x y hx hy e =
+    same-byte x y hx hy (ap (bitAt 0) e) (ap (bitAt 1) e) (ap (bitAt 2) e) (ap (bitAt 3) e) (ap (bitAt 4) e) (ap (bitAt 5) e) (ap (bitAt 6) e) (ap (bitAt 7) e)
+bits-injective false x y hx hy e =
+    same-byte x y hx hy (ap (bitAt 7) e) (ap (bitAt 6) e) (ap (bitAt 5) e) (ap (bitAt 4) e) (ap (bitAt 3) e) (ap (bitAt 2) e) (ap (bitAt 1) e) (ap (bitAt 0) e)
