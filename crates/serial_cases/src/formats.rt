@@ -6,9 +6,8 @@ use crate::access::prepared;
 use crate::expected::Setup;
 use crate::link::Link;
 use crate::phrase;
-use print::number;
-use print::text;
-use print::verdict;
+use crate::print::text;
+use crate::print::verdict;
 
 // Written to TXB8 and UDR0 in every format; what goes out are the data bits of the format.
 const FIRST: u16 = 0x1a3;
@@ -60,7 +59,7 @@ fn txc_after(l: Link) -> bool {
 
 fn line(s: Setup, agreed: u32, first: u64, second: u64) {
     phrase::setup(s);
-    number(b", TxD as expected on ", agreed as u64);
+    phrase::number(b", TxD as expected on ", agreed as u64);
     text(b" clocks, read");
     phrase::frame_read(first);
     text(b", read");

@@ -7,6 +7,7 @@ mod link;
 mod noise;
 mod phrase;
 mod play;
+mod print;
 mod receiving;
 mod refusals;
 mod registers;

@@ -1,12 +1,19 @@
 // The words of a case's line.
 use crate::expected::Setup;
+use crate::print::decimal;
+use crate::print::hex;
+use crate::print::text;
 use crate::step::word_at;
-use print::decimal;
-use print::digits;
-use print::number;
-use print::part;
-use print::text;
-use print::unless_zero;
+
+pub fn number(words: &[u8], n: u64) {
+    text(words);
+    decimal(n);
+}
+
+pub fn digits(words: &[u8], n: u64, width: usize) {
+    text(words);
+    hex(n, width);
+}
 
 fn parity_name(upm: u8) {
     match upm {
@@ -23,6 +30,14 @@ pub fn setup(s: Setup) {
     decimal(s.stop_bits() as u64);
     number(b" S=", s.samples() as u64);
     number(b" UBRR=", s.ubrr as u64);
+}
+
+fn part(words: &[u8], at: usize, end: usize) {
+    if end <= words.len() {
+        if at <= end {
+            text(&words[at..end]);
+        }
+    }
 }
 
 // The registers in the order of their digit, six letters each; UDR0 has four.
@@ -48,6 +63,13 @@ fn signal(n: u64) {
         1 => text(b", TxD driven"),
         2 => text(b", UDRE"),
         _ => text(b", TXC"),
+    }
+}
+
+// Said only where there is something to say.
+fn unless_zero(words: &[u8], n: u64) {
+    if n != 0 {
+        number(words, n);
     }
 }
 

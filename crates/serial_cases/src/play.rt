@@ -3,12 +3,11 @@ use crate::access::prepared;
 use crate::act::acted;
 use crate::expected::Setup;
 use crate::phrase;
+use crate::print::text;
+use crate::print::verdict;
 use crate::step::KIND;
 use crate::step::byte_at;
 use crate::step::word_at;
-use print::number;
-use print::text;
-use print::verdict;
 use usart::Usart;
 
 // The unit under test, and whether all that came out so far was as expected.
@@ -46,7 +45,7 @@ fn line(kind: u64, n: u64, ok: bool) {
     match kind {
         0 => verdict(ok),
         1 => {
-            number(b"M", n);
+            phrase::number(b"M", n);
             text(b", ");
         }
         2 => text(b"reset"),

@@ -9,8 +9,7 @@ use Rattle.choice.specs.Pick.{pick}
 use Rattle.choice.proofs.Picks.{pick-ind}
 use Rattle.shifter.specs.declared.Mode.{Mode}
 use Rattle.shifter.proofs.Byte.{edge-lt}
-use Rattle.spi.specs.Control.{isEnabled, isMaster, modeOf, numberOf, half, isInput}
-use Rattle.spi.specs.Control as control
+use Rattle.spi.specs.Control.{isEnabled, isMaster, cpolOf, modeOf, numberOf, half, withoutMstr, isInput}
 use Rattle.spi.specs.Divisor.{halfOf}
 use Rattle.spi.specs.Transfer.{isUnderWay, droppedOf, edgedOf}
 use Rattle.spi.specs.Unit.{resetSpi, differs, isRequested}
@@ -95,7 +94,7 @@ module _ (s : Spi) (on : isEnabled (s .control) ≡ true) (v : Valid s) where
   valid-selected l m =
       let c : Control = s .control in
       rw (presented-as s)
-      (pick-ind Valid (isEdge (control.cpolOf c) (s .transfer .edges) (s .pins .sck) (l .sck)) _ _
+      (pick-ind Valid (isEdge (cpolOf c) (s .transfer .edges) (s .pins .sck) (l .sck)) _ _
       (λ _. record {
         spcr = v .spcr;
         ddrb = v .ddrb;
@@ -108,7 +107,7 @@ module _ (s : Spi) (on : isEnabled (s .control) ≡ true) (v : Valid s) where
   valid-faulted : Valid (faultOf s)
   valid-faulted =
       let b : s .control .spcr < 256 = v .spcr in
-      record { spcr = omega arith; ddrb = v .ddrb; transfer = valid-dropped (s .control) (control.slaveOf (s .control)) (s .transfer) (v .transfer) }
+      record { spcr = omega arith; ddrb = v .ddrb; transfer = valid-dropped (s .control) (withoutMstr (s .control)) (s .transfer) (v .transfer) }
 
 valid-dropped-unit : (s : Spi) → Valid s → Valid (withTransfer s (droppedOf (s .transfer)))
 valid-dropped-unit s v = record { spcr = v .spcr; ddrb = v .ddrb; transfer = valid-dropped (s .control) (s .control) (s .transfer) (v .transfer) }

@@ -5,8 +5,7 @@ use lib.Dec.{eqb}
 use Rattle.choice.specs.Pick.{pick}
 use Rattle.shifter.specs.Order.{outBit}
 use Rattle.spi.specs.Flag.{raisedOf}
-use Rattle.spi.specs.Control.{isEnabled, isMaster, cpolOf, modeOf, half, isInput}
-use Rattle.spi.specs.Control as control
+use Rattle.spi.specs.Control.{isEnabled, isMaster, cpolOf, modeOf, half, withoutMstr, isInput}
 use Rattle.spi.specs.Transfer.{droppedOf, edgedOf}
 use Rattle.spi.specs.Unit.{differs}
 use Rattle.spi.specs.declared.clock.Levels.{Levels}
@@ -56,7 +55,7 @@ masterOf s miso =
 -- a master with SS an input and low becomes slave: MSTR cleared, SPIF set, transfer dropped; no edge counts and nothing is put out
 abbrev pub faultOf : Spi → Spi
 faultOf s =
-    record { control = control.slaveOf (s .control); transfer = droppedOf (s .transfer); flags = raisedFlags (s .flags); pins = s .pins }
+    record { control = withoutMstr (s .control); transfer = droppedOf (s .transfer); flags = raisedFlags (s .flags); pins = s .pins }
 
 -- the edges are those of the SCK level against the clock before; the first must be a leading edge
 unfoldable pub isEdge : Bool → ℕ → Bool → Bool → Bool

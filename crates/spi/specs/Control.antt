@@ -35,8 +35,8 @@ abbrev pub half : Control → ℕ
 half c = halfOf (numberOf c)
 
 -- MSTR cleared
-abbrev pub slaveOf : Control → Control
-slaveOf c = record { spcr = c .spcr / 32 * 32 + c .spcr % 16; spi2x = c .spi2x; ddrb = c .ddrb }
+abbrev pub withoutMstr : Control → Control
+withoutMstr c = record { spcr = c .spcr / 32 * 32 + c .spcr % 16; spi2x = c .spi2x; ddrb = c .ddrb }
 
 -- SS an input
 abbrev pub isInput : Control → Bool

@@ -1,6 +1,6 @@
 use shifter::Mode;
 ghost use mathlib.Core.Path.{_≡_};
-ghost use Rattle.spi.specs.Control.{isEnabled, isMaster, cpolOf, modeOf, numberOf, slaveOf, isInput};
+ghost use Rattle.spi.specs.Control.{isEnabled, isMaster, cpolOf, modeOf, numberOf, withoutMstr, isInput};
 
 // SPCR, SPI2X of SPSR, and DDRB.
 pub struct Control {
@@ -53,7 +53,7 @@ impl Control {
 
     // MSTR cleared.
     pub fn slave(self) -> Control
-        ensures { λ r. ⌜ r ≡ slaveOf self ⌝ }
+        ensures { λ r. ⌜ r ≡ withoutMstr self ⌝ }
     {
         Control {
             spcr: self.spcr / 32 * 32 + self.spcr % 16,

@@ -9,6 +9,7 @@ mod masters;
 mod outputs;
 mod phrase;
 mod play;
+mod print;
 mod refusals;
 mod registers;
 mod selecting;

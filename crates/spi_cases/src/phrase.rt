@@ -1,26 +1,27 @@
 // The words of a case's line.
-use print::decimal;
-use print::digits;
-use print::number;
-use print::part;
-use print::text;
-use print::unless_zero;
+use crate::print::byte;
+use crate::print::decimal;
+use crate::print::number;
+use crate::print::text;
 
-fn end_of_register(n: u64) -> usize {
-    if n < 4 {
-        return (n % 7 * 6 + 4) as usize;
+// The registers in the order of their digit, and what else is asked.
+fn register(n: u64) {
+    match n {
+        0 => text(b", SPCR"),
+        1 => text(b", SPSR"),
+        2 => text(b", SPDR"),
+        3 => text(b", DDRB"),
+        4 => text(b", vector"),
+        5 => text(b", report"),
+        _ => text(b", output"),
     }
-    (n % 7 * 6 + 6) as usize
 }
 
-// The registers in the order of their digit, four letters each, and what else is asked.
-fn register(n: u64) {
-    text(b", ");
-    part(
-        b"SPCR  SPSR  SPDR  DDRB  vectorreportoutput",
-        (n % 7 * 6) as usize,
-        end_of_register(n % 7),
-    );
+// Said only where there is something to say.
+fn unless_zero(words: &[u8], n: u64) {
+    if n != 0 {
+        number(words, n);
+    }
 }
 
 fn pin(n: u64) {
@@ -53,7 +54,7 @@ fn signal(n: u64) {
 fn write(n: u64) {
     register(n / 0x1000);
     if n / 0x1000 != 4 {
-        digits(b"=", n / 0x10 % 0x100, 2);
+        byte(b"=", n / 0x10 % 0x100);
     }
 }
 
@@ -61,8 +62,8 @@ fn write(n: u64) {
 pub fn reset(n: u64) {
     text(b"reset");
     if n != 0 {
-        digits(b", DDRB=", n / 0x100, 2);
-        digits(b", SPCR=", n % 0x100, 2);
+        byte(b", DDRB=", n / 0x100);
+        byte(b", SPCR=", n % 0x100);
     }
 }
 
@@ -76,7 +77,7 @@ fn pace(n: u64) {
 }
 
 fn sends(n: u64) {
-    digits(b", other side sends ", n / 0x100 % 0x100, 2);
+    byte(b", other side sends ", n / 0x100 % 0x100);
     pace(n / 0x1000_0000);
 }
 
@@ -94,7 +95,7 @@ pub fn done(kind: u64, n: u64) {
 }
 
 fn got(n: u64) {
-    digits(b", gets ", n % 0x100, 2);
+    byte(b", gets ", n % 0x100);
     unless_zero(b", SPIF on clock ", n / 0x100);
 }
 
@@ -104,7 +105,7 @@ pub fn came(kind: u64, n: u64) {
         7 => number(b" on clock ", n),
         8 => got(n),
         9 => unless_zero(b" answers ", n),
-        10 => digits(b" reads ", n, 2),
+        10 => byte(b" reads ", n),
         _ => (),
     }
 }

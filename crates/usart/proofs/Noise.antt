@@ -44,10 +44,6 @@ module _ (f : Format) (r : Reception) (e : ℕ) where
   hit-vote false al o = refl
   hit-vote true al o = omega (arith, al .from)
 
-  pub hit-late : (n : Bool) → Allowed f (Receiving r) e n → firstVote f + 2 ≤ r .sample .0 → digit n ≡ 0
-  hit-late false al o = refl
-  hit-late true al o = omega (arith, al .to)
-
   pub hit-stop : (n : Bool) → Allowed f (Receiving r) e n → r .bit ≡ wordBits f + 1 → r .sample .0 ≡ firstVote f + 1 → n ≡ false
   hit-stop false al o t = refl
   hit-stop true al o t = absurd (omega (arith, al .stop o))
