@@ -5,10 +5,11 @@ use mathlib.Core.List.{List, [], _∷_, _++_}
 use mathlib.Core.Path.{_≡_, refl, sym, ap, _∙_}
 use native.Mathlib.Nat.{div-one, div-eq-of-lt, div-div-eq-div-mul}
 use native.Mathlib.Omega.{arith}
-use lib.Dec.{eqb, lit≤}
+use lib.Dec.{eqb}
 use lib.ListN.{getD}
 use borrow.Author.Tests.{eqb-true, eqb-false}
 use Rattle.choice.specs.Pick.{digit}
+use Rattle.choice.proofs.Digits.{digit-le, digit-is}
 use Rattle.shifter.specs.Order.{outBit, shiftedIn, bitOf, bitsOf}
 
 -- the bits of a list but the first
@@ -16,20 +17,12 @@ abbrev pub rest : List Bool → List Bool
 rest [] = []
 rest (b ∷ bs) = bs
 
-digit-le : (b : Bool) → digit b ≤ 1
-digit-le true = lit≤ tt
-digit-le false = lit≤ tt
-
-eqb-digit : (b : Bool) → eqb (digit b) 1 ≡ b
-eqb-digit true = refl
-eqb-digit false = refl
-
 -- a bit of one number is a bit of another, or b
 moved : (y x w v : ℕ) → y / w % 2 ≡ x / v % 2 → bitOf y w ≡ bitOf x v
 moved y x w v e = ap (λ (n : ℕ). eqb n 1) e
 
 entered : (y w : ℕ) (b : Bool) → y / w % 2 ≡ digit b → bitOf y w ≡ b
-entered y w b e = ap (λ (n : ℕ). eqb n 1) e ∙ eqb-digit b
+entered y w b e = ap (λ (n : ℕ). eqb n 1) e ∙ digit-is b
 
 -- the bit that leaves is the first
 pub out-first : (dord : Bool) (x : ℕ) → bitsOf dord x ≡ outBit dord x ∷ rest (bitsOf dord x)

@@ -10,3 +10,4 @@ pub mod BusLaws
 pub mod WiredLaws
 pub mod WiredTurns
 pub mod Witness
+pub mod OutputLaws

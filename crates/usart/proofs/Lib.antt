@@ -9,3 +9,4 @@ pub mod ReceivingLine
 pub mod SendingLine
 pub mod ValidLaws
 pub mod Witness
+pub mod OutputLaws

@@ -7,6 +7,7 @@ use native.Mathlib.Nat.{mod-lt}
 use native.Mathlib.Omega.{arith}
 use lib.Dec.{eqb, lit≤}
 use Rattle.choice.specs.Pick.{pick, digit}
+use Rattle.choice.proofs.Digits.{digit-le}
 use Rattle.usart.specs.Sender.{isVacant}
 use Rattle.usart.specs.Queue.{heldIn, isEmpty, oldestOf, takenFrom}
 use Rattle.usart.specs.Read.{ucsr0a, ucsr0b, oldest}
@@ -16,10 +17,6 @@ use Rattle.usart.specs.declared.queue.Places.{Places}
 use Rattle.usart.specs.declared.queue.Places.the-variants.{Empty, One, Two}
 use Rattle.usart.specs.declared.unit.Usart.{Usart}
 use Rattle.usart.specs.declared.write.Register.the-variants.{Udr0}
-
-pub digit-le : (b : Bool) → digit b ≤ 1
-digit-le true = lit≤ tt
-digit-le false = lit≤ tt
 
 -- flags in a byte, as in UCSR0A, each read back by its place
 pub record Flags (n : ℕ) (b7 b4 b3 b2 : Bool) : Type 0 where

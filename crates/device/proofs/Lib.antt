@@ -1,0 +1,3 @@
+pub mod RegisterLaws
+pub mod OutputLaws
+pub mod ValidLaws

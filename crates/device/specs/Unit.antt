@@ -1,0 +1,44 @@
+-- The device at reset, at a clock, its output byte and its requests (document 01, 'SPI': level byte and output byte; 'Receiver': requests).
+use Prim.Native.Nat.{ℕ, _+_, _/_, _%_}
+use mathlib.Core.Bool.{Bool}
+use lib.Dec.{eqb}
+use Rattle.usart.specs.Unit.{resetUsart, clockOf as serialClock, outputOf as serialOutput, requestsOf as serialRequests}
+use Rattle.usart.specs.declared.unit.Usart.{Usart}
+use Rattle.spi.specs.Unit.{resetSpi, outputOf as spiOutput, requestsOf as spiRequests}
+use Rattle.spi.specs.Clock.{clockOf as spiClock}
+use Rattle.spi.specs.declared.clock.Levels.{Levels}
+use Rattle.spi.specs.declared.unit.Spi.{Spi}
+use Rattle.device.specs.declared.unit.Device.{Device}
+use Rattle.device.specs.declared.unit.Clocked.{Clocked}
+
+abbrev pub resetDevice : Device
+resetDevice = record { usart = resetUsart; spi = resetSpi }
+
+abbrev pub withUsart : Device → Usart → Device
+withUsart d u = record { usart = u; spi = d .spi }
+
+abbrev pub withSpi : Device → Spi → Device
+withSpi d s = record { usart = d .usart; spi = s }
+
+-- level byte: RxD, MISO, MOSI, SCK, SS in bits 0 to 4
+abbrev pub rxdIn : ℕ → Bool
+rxdIn level = eqb (level % 2) 1
+
+abbrev pub levelsIn : ℕ → Levels
+levelsIn level =
+    record { miso = eqb (level / 2 % 2) 1; mosi = eqb (level / 4 % 2) 1; sck = eqb (level / 8 % 2) 1; ss = eqb (level / 16 % 2) 1 }
+
+abbrev pub clockOf : Device → ℕ → Device
+clockOf d level = record { usart = serialClock (d .usart) (rxdIn level); spi = spiClock (d .spi) (levelsIn level) }
+
+-- output byte: TxD, MOSI, MISO, SCK in bits 0 to 3, driven marks in 4 to 7; SS at this clock is looked at for MISO
+abbrev pub outputOf : Device → ℕ → ℕ
+outputOf d level = serialOutput (d .usart) + spiOutput (d .spi) (levelsIn level .ss)
+
+-- the output byte is that after the clock
+abbrev pub clockedOf : Device → ℕ → Clocked
+clockedOf d level = record { device = clockOf d level; output = outputOf (clockOf d level) level }
+
+-- requests: RXC with RXCIE, UDRE with UDRIE, TXC with TXCIE, SPIF with SPIE, bits 0 to 3 of the report
+abbrev pub requestsOf : Device → ℕ
+requestsOf d = serialRequests (d .usart) + spiRequests (d .spi)
