@@ -9,6 +9,7 @@ use Rattle.usart.proofs.OutputLaws.{output-bits as serial-bits, requests-lt as 
 use Rattle.spi.specs.Unit.{outputOf as spiOutput, requestsOf as spiRequests}
 use Rattle.spi.specs.declared.unit.Spi.{Spi}
 use Rattle.spi.proofs.OutputLaws.{output-bits as spi-bits, requests-le as spi-le}
+use Rattle.device.specs.Output.{txdBits}
 use Rattle.device.specs.Unit.{levelsIn, outputOf, requestsOf}
 use Rattle.device.specs.declared.unit.Device.{Device}
 
@@ -17,10 +18,6 @@ output-fits u s ss p q = let x = serial-bits u .most in let y = spi-bits s ss .m
 
 pub requests-fit : (u : Usart) (s : Spi) {a b : ℕ} → a ≡ serialRequests u → b ≡ spiRequests s → a + b < 256
 requests-fit u s p q = let x = serial-lt u in let y = spi-le s in omega (arith, p, q)
-
--- TxD and its driven mark, of an output byte
-abbrev pub txdBits : ℕ → ℕ
-txdBits o = o % 2 + o / 16 % 2 * 16
 
 -- of a sum of the units' shares: level and mark of the one, even and without bit 4 the other
 side-by-side : (u s a b q r : ℕ) → u ≡ 16 * a + b → a ≤ 1 → b ≤ 1 → s ≡ 32 * q + 2 * r → r < 8 → txdBits (u + s) ≡ u

@@ -1,17 +1,22 @@
 -- Writes and reads by the place that an address names, as equations over plain values.
 use Prim.Native.Nat.{ℕ}
-use mathlib.Core.Path.{_≡_, sym, ap, _∙_}
+use mathlib.Core.Path.{_≡_, refl, sym, ap, _∙_}
 use Rattle.usart.specs.Unit.{resetUsart}
 use Rattle.usart.specs.Read.{readOf as serialReadOf}
-use Rattle.usart.specs.Write.{writeOf as serialWriteOf}
+use Rattle.usart.specs.Write.{numberOf as serialNumber, writeOf as serialWriteOf}
+use Rattle.usart.specs.declared.write.Refusal.{Refusal as SerialRefusal}
+use Rattle.usart.specs.declared.write.Refusal.the-variants.{Reserved as SerialReserved, Unmodelled as SerialUnmodelled, UnderWay as SerialUnderWay, Unrequested as SerialUnrequested}
 use Rattle.usart.specs.declared.write.Register.{Register as SerialRegister}
 use Rattle.usart.specs.declared.write.Written.{Written as SerialWritten}
 use Rattle.usart.specs.declared.read.Reading.{Reading as SerialReading}
 use Rattle.spi.specs.Unit.{resetSpi}
-use Rattle.spi.specs.Register.{readOf as spiReadOf, writeOf as spiWriteOf}
+use Rattle.spi.specs.Register.{numberOf as spiNumber, readOf as spiReadOf, writeOf as spiWriteOf}
+use Rattle.spi.specs.declared.register.Refusal.{Refusal as SpiRefusal}
+use Rattle.spi.specs.declared.register.Refusal.the-variants.{UnderWay as SpiUnderWay, Unrequested as SpiUnrequested}
 use Rattle.spi.specs.declared.register.Register.{Register as SpiRegister}
 use Rattle.spi.specs.declared.register.Written.{Written as SpiWritten}
 use Rattle.spi.specs.declared.register.Reading.{Reading as SpiReading}
+use Rattle.device.specs.Answer.{numberOf, ofSerial, ofSpi}
 use Rattle.device.specs.Address.{placeOf}
 use Rattle.device.specs.Register.{resetIn, resetAt, serialWritten, spiWritten, writeIn, writeOf, serialRead, spiRead, readIn, readOf}
 use Rattle.device.specs.declared.answer.Refusal.the-variants.{Unknown}
@@ -22,6 +27,17 @@ use Rattle.device.specs.declared.answer.Reading.the-variants.{Refused as
 use Rattle.device.specs.declared.address.Place.{Place}
 use Rattle.device.specs.declared.address.Place.the-variants.{Serial, Spi, Nowhere}
 use Rattle.device.specs.declared.unit.Device.{Device}
+
+-- a unit's refusal keeps its number
+pub number-serial : (r : SerialRefusal) → numberOf (ofSerial r) ≡ serialNumber r
+number-serial SerialReserved = refl
+number-serial SerialUnmodelled = refl
+number-serial SerialUnderWay = refl
+number-serial SerialUnrequested = refl
+
+pub number-spi : (r : SpiRefusal) → numberOf (ofSpi r) ≡ spiNumber r
+number-spi SpiUnderWay = refl
+number-spi SpiUnrequested = refl
 
 -- the place of an address is p
 module _ (a : ℕ) {p : Place} (at : p ≡ placeOf a) where

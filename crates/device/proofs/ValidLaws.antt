@@ -1,6 +1,6 @@
 -- Every operation keeps the ranges of the fields; reset has them. A value of a write is a byte.
 use Prim.Native.Nat.{ℕ, _<_}
-use mathlib.Core.Path.{_≡_, refl}
+use mathlib.Core.List.{List, [], _∷_}
 use lib.Dec.{eqb}
 use Rattle.choice.proofs.Picks.{pick-ind}
 use Rattle.usart.specs.Write.{writeOf as serialWriteOf, vectorOf as serialVectorOf}
@@ -18,6 +18,7 @@ use Rattle.device.specs.Answer.{settled, readSettled}
 use Rattle.device.specs.Address.{placeOf}
 use Rattle.device.specs.Unit.{resetDevice, rxdIn, levelsIn, clockOf}
 use Rattle.device.specs.Register.{serialWritten, spiWritten, writeIn, writeOf, readIn, readOf, vectorOf}
+use Rattle.device.specs.Run.{ranOf}
 use Rattle.device.specs.Valid.{Valid}
 use Rattle.device.specs.declared.answer.Written.{Written}
 use Rattle.device.specs.declared.address.Place.{Place}
@@ -61,3 +62,8 @@ valid-vector d n v =
     pick-ind (λ (w : Written). Valid (settled d w)) (eqb n 0) _ _
     (λ _. serial-settled d (serialVectorOf (d .usart)) v (serial-vector (d .usart) (v .usart)))
     (λ _. pick-ind (λ (w : Written). Valid (settled d w)) (eqb n 1) _ _ (λ _. spi-settled d (spiVectorOf (d .spi)) v (spi-vector (d .spi) (v .spi))) (λ _. v))
+
+pub valid-run : (d : Device) (levels : List ℕ) → Valid d → Valid (ranOf d levels)
+unfolding ranOf
+valid-run d [] v = v
+valid-run d (l ∷ ls) v = valid-run (clockOf d l) ls (valid-clock d l v)
