@@ -1,3 +1,4 @@
 pub mod RegisterLaws
 pub mod OutputLaws
 pub mod ValidLaws
+pub mod SerialLaws

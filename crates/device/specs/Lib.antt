@@ -4,4 +4,5 @@ pub mod Unit
 pub mod Output
 pub mod Register
 pub mod Run
+pub mod Serial
 pub mod Valid

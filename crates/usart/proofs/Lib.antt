@@ -10,3 +10,4 @@ pub mod SendingLine
 pub mod ValidLaws
 pub mod Witness
 pub mod OutputLaws
+pub mod AppendLaws

@@ -1,0 +1,80 @@
+-- What the device's operations do to the serial unit is what their serial events do.
+use Prim.Native.Nat.{ℕ}
+use mathlib.Core.Bool.{Bool, true, false}
+use mathlib.Core.List.{List, [], _∷_, map}
+use mathlib.Core.Path.{_≡_, refl, ap, ap₂, _∙_}
+use lib.Dec.{eqb}
+use lib.ListN.{length}
+use Rattle.choice.specs.Pick.{pick}
+use Rattle.choice.proofs.Picks.{split}
+use Rattle.usart.specs.Event.{vector, settled as serialSettled, finalOf, levelsOf}
+use Rattle.usart.specs.Sending.{outputsOf as serialOutputs}
+use Rattle.usart.specs.Write.{writeOf as serialWriteOf, vectorOf as serialVectorOf}
+use Rattle.usart.specs.declared.write.Written.{Written as SerialWritten}
+use Rattle.usart.specs.declared.write.Written.the-variants.{Done as SerialDone, Refused as SerialRefused}
+use Rattle.spi.specs.Register.{writeOf as spiWriteOf, vectorOf as spiVectorOf}
+use Rattle.spi.specs.declared.register.Written.{Written as SpiWritten}
+use Rattle.spi.specs.declared.register.Written.the-variants.{Done as SpiDone, Refused as SpiRefused}
+use Rattle.device.specs.Answer.{settled, readSettled}
+use Rattle.device.specs.Address.{placeOf}
+use Rattle.device.specs.Output.{txdBits}
+use Rattle.device.specs.Unit.{rxdIn, clockOf}
+use Rattle.device.specs.Register.{serialWritten, spiWritten, writeIn, writeOf, readIn, readOf, vectorOf}
+use Rattle.device.specs.Run.{ranOf, outputsOf}
+use Rattle.device.specs.Serial.{clocksOf, writesAt, readsAt, vectorsAt}
+use Rattle.device.specs.declared.answer.Written.{Written}
+use Rattle.device.specs.declared.answer.Written.the-variants.{Refused}
+use Rattle.device.specs.declared.answer.Refusal.the-variants.{Unknown}
+use Rattle.device.specs.declared.address.Place.{Place}
+use Rattle.device.specs.declared.address.Place.the-variants.{Serial, Spi, Nowhere}
+use Rattle.device.specs.declared.unit.Device.{Device}
+use Rattle.device.proofs.OutputLaws.{output-serial}
+
+pub serial-settled : (d : Device) (w : SerialWritten) → settled d (serialWritten d w) .usart ≡ serialSettled (d .usart) w
+serial-settled d (SerialDone u) = refl
+serial-settled d (SerialRefused r) = refl
+
+pub spi-settled : (d : Device) (w : SpiWritten) → settled d (spiWritten d w) .usart ≡ d .usart
+spi-settled d (SpiDone s) = refl
+spi-settled d (SpiRefused r) = refl
+
+write-in : (d : Device) (p : Place) (v : ℕ) → settled d (writeIn d p v) .usart ≡ finalOf (d .usart) (writesAt p v)
+write-in d (Serial r) v = serial-settled d (serialWriteOf (d .usart) r v)
+write-in d (Spi r) v = spi-settled d (spiWriteOf (d .spi) r v)
+write-in d Nowhere v = refl
+
+pub write-serial : (d : Device) (a v : ℕ) → settled d (writeOf d a v) .usart ≡ finalOf (d .usart) (writesAt (placeOf a) v)
+write-serial d a v = write-in d (placeOf a) v
+
+read-in : (d : Device) (p : Place) → readSettled d (readIn d p) .usart ≡ finalOf (d .usart) (readsAt p)
+read-in d (Serial r) = refl
+read-in d (Spi r) = refl
+read-in d Nowhere = refl
+
+pub read-serial : (d : Device) (a : ℕ) → readSettled d (readOf d a) .usart ≡ finalOf (d .usart) (readsAt (placeOf a))
+read-serial d a = read-in d (placeOf a)
+
+vector-in : (d : Device) (a b : Bool)
+    → settled d (pick a (serialWritten d (serialVectorOf (d .usart))) (pick b (spiWritten d (spiVectorOf (d .spi))) (Refused Unknown))) .usart
+    ≡ finalOf (d .usart) (pick a (vector ∷ []) [])
+vector-in d true b = serial-settled d (serialVectorOf (d .usart))
+vector-in d false true = spi-settled d (spiVectorOf (d .spi))
+vector-in d false false = refl
+
+pub vector-serial : (d : Device) (n : ℕ) → settled d (vectorOf d n) .usart ≡ finalOf (d .usart) (vectorsAt n)
+unfolding vectorOf vectorsAt
+vector-serial d n = vector-in d (eqb n 0) (eqb n 1)
+
+pub run-serial : (d : Device) (ls : List ℕ) → ranOf d ls .usart ≡ finalOf (d .usart) (clocksOf ls)
+unfolding ranOf
+run-serial d [] = refl
+run-serial d (l ∷ ls) = run-serial (clockOf d l) ls
+
+pub outputs-serial : (d : Device) (ls : List ℕ) → map txdBits (outputsOf d ls) ≡ serialOutputs (d .usart) (clocksOf ls)
+unfolding outputsOf
+outputs-serial d [] = refl
+outputs-serial d (l ∷ ls) = ap₂ (_∷_) (output-serial (clockOf d l) l) (outputs-serial (clockOf d l) ls)
+
+pub levels-serial : (ls : List ℕ) → levelsOf (clocksOf ls) ≡ map rxdIn ls
+levels-serial [] = refl
+levels-serial (l ∷ ls) = ap (_∷_ (rxdIn l)) (levels-serial ls)

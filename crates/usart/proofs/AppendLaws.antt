@@ -1,0 +1,62 @@
+-- Lists of events one after another: what holds of the whole, by what holds of the first part and of the second from where the first ends.
+use Prim.Native.Nat.{ℕ, zero, suc, _+_}
+use mathlib.Core.List.{List, [], _∷_, _++_, append-assoc}
+use mathlib.Core.Path.{_≡_, refl, ap, _∙_}
+use native.Mathlib.Omega.{arith}
+use lib.ListN.{length}
+use Rattle.usart.specs.Unit.{clockOf, outputOf}
+use Rattle.usart.specs.Event.{Event, clock, write, read, vector, nextOf, finalOf, OnlyData, levelsOf}
+use Rattle.usart.specs.Receiving.{Free, takenBy, readsOf, entriesOf}
+use Rattle.usart.specs.Sending.{acceptedBy, acceptedOf, outputsOf}
+use Rattle.usart.specs.declared.unit.Usart.{Usart}
+
+pub final-append : (u : Usart) (es fs : List Event) → finalOf u (es ++ fs) ≡ finalOf (finalOf u es) fs
+final-append u [] fs = refl
+final-append u (e ∷ es) fs = final-append (nextOf u e) es fs
+
+pub levels-append : (es fs : List Event) → levelsOf (es ++ fs) ≡ levelsOf es ++ levelsOf fs
+levels-append [] fs = refl
+levels-append (clock rxd ∷ es) fs = ap (_∷_ rxd) (levels-append es fs)
+levels-append (write r v ∷ es) fs = levels-append es fs
+levels-append (read r ∷ es) fs = levels-append es fs
+levels-append (vector ∷ es) fs = levels-append es fs
+
+pub only-append : (u : Usart) (es fs : List Event) → OnlyData u es → OnlyData (finalOf u es) fs → OnlyData u (es ++ fs)
+only-append u [] fs h k = k
+only-append u (clock rxd ∷ es) fs h k = only-append (clockOf u rxd) es fs h k
+only-append u (write r v ∷ es) fs h k = (h .0, only-append (nextOf u (write r v)) es fs (h .1) k)
+only-append u (read r ∷ es) fs h k = only-append (nextOf u (read r)) es fs h k
+only-append u (vector ∷ es) fs h k = only-append (nextOf u vector) es fs h k
+
+pub free-append : (u : Usart) (es fs : List Event) → Free u es → Free (finalOf u es) fs → Free u (es ++ fs)
+free-append u [] fs h k = k
+free-append u (clock rxd ∷ es) fs h k = (h .0, free-append (clockOf u rxd) es fs (h .1) k)
+free-append u (write r v ∷ es) fs h k = free-append (nextOf u (write r v)) es fs h k
+free-append u (read r ∷ es) fs h k = free-append (nextOf u (read r)) es fs h k
+free-append u (vector ∷ es) fs h k = free-append (nextOf u vector) es fs h k
+
+pub reads-append : (u : Usart) (es fs : List Event) → readsOf u (es ++ fs) ≡ readsOf u es ++ readsOf (finalOf u es) fs
+reads-append u [] fs = refl
+reads-append u (e ∷ es) fs = rw (reads-append (nextOf u e) es fs, append-assoc)
+
+pub accepted-append : (u : Usart) (es fs : List Event) → acceptedOf u (es ++ fs) ≡ acceptedOf u es ++ acceptedOf (finalOf u es) fs
+accepted-append u [] fs = refl
+accepted-append u (e ∷ es) fs = rw (accepted-append (nextOf u e) es fs, append-assoc)
+
+pub outputs-append : (u : Usart) (es fs : List Event) → outputsOf u (es ++ fs) ≡ outputsOf u es ++ outputsOf (finalOf u es) fs
+outputs-append u [] fs = refl
+outputs-append u (clock rxd ∷ es) fs = ap (_∷_ (outputOf (clockOf u rxd))) (outputs-append (clockOf u rxd) es fs)
+outputs-append u (write r v ∷ es) fs = outputs-append (nextOf u (write r v)) es fs
+outputs-append u (read r ∷ es) fs = outputs-append (nextOf u (read r)) es fs
+outputs-append u (vector ∷ es) fs = outputs-append (nextOf u vector) es fs
+
+-- the second part begins after as many clocks as the first has
+pub entries-append : (j : ℕ) (u : Usart) (es fs : List Event)
+    → entriesOf j u (es ++ fs) ≡ entriesOf j u es ++ entriesOf (j + length (levelsOf es)) (finalOf u es) fs
+entries-append j u [] fs = ap (λ (n : ℕ). entriesOf n u fs) (omega arith)
+entries-append j u (clock rxd ∷ es) fs =
+    let e : j + suc (length (levelsOf es)) ≡ suc j + length (levelsOf es) = omega arith in
+    rw (entries-append (suc j) (clockOf u rxd) es fs, append-assoc, e)
+entries-append j u (write r v ∷ es) fs = entries-append j (nextOf u (write r v)) es fs
+entries-append j u (read r ∷ es) fs = entries-append j (nextOf u (read r)) es fs
+entries-append j u (vector ∷ es) fs = entries-append j (nextOf u vector) es fs
