@@ -2,14 +2,16 @@
 use Prim.Native.Nat.{ℕ}
 use mathlib.Core.Bool.{Bool, true, false}
 use mathlib.Core.List.{List, [], _∷_, map}
-use mathlib.Core.Path.{_≡_, refl, ap, ap₂, _∙_}
+use mathlib.Core.Path.{_≡_, refl, sym, ap, ap₂, _∙_}
 use lib.Dec.{eqb}
 use lib.ListN.{length}
 use Rattle.choice.specs.Pick.{pick}
-use Rattle.choice.proofs.Picks.{split}
+use borrow.Author.Tests.{eqb-true}
+use Rattle.choice.proofs.Picks.{pick-ind, pick-split}
 use Rattle.usart.specs.Event.{vector, settled as serialSettled, finalOf, levelsOf}
 use Rattle.usart.specs.Sending.{outputsOf as serialOutputs}
 use Rattle.usart.specs.Write.{writeOf as serialWriteOf, vectorOf as serialVectorOf}
+use Rattle.usart.specs.declared.write.Register.the-variants.{Udr0}
 use Rattle.usart.specs.declared.write.Written.{Written as SerialWritten}
 use Rattle.usart.specs.declared.write.Written.the-variants.{Done as SerialDone, Refused as SerialRefused}
 use Rattle.spi.specs.Register.{writeOf as spiWriteOf, vectorOf as spiVectorOf}
@@ -21,7 +23,7 @@ use Rattle.device.specs.Output.{txdBits}
 use Rattle.device.specs.Unit.{rxdIn, clockOf}
 use Rattle.device.specs.Register.{serialWritten, spiWritten, writeIn, writeOf, readIn, readOf, vectorOf}
 use Rattle.device.specs.Run.{ranOf, outputsOf}
-use Rattle.device.specs.Serial.{clocksOf, writesAt, readsAt, vectorsAt}
+use Rattle.device.specs.Serial.{isData, clocksOf, writesAt, readsAt, vectorsAt}
 use Rattle.device.specs.declared.answer.Written.{Written}
 use Rattle.device.specs.declared.answer.Written.the-variants.{Refused}
 use Rattle.device.specs.declared.answer.Refusal.the-variants.{Unknown}
@@ -29,6 +31,29 @@ use Rattle.device.specs.declared.address.Place.{Place}
 use Rattle.device.specs.declared.address.Place.the-variants.{Serial, Spi, Nowhere}
 use Rattle.device.specs.declared.unit.Device.{Device}
 use Rattle.device.proofs.OutputLaws.{output-serial}
+
+-- the data register's address is UDR0's
+elsewhere : (a k : ℕ) (p q : Place) → eqb k 0xC6 ≡ false → isData p ≡ false → isData q ≡ eqb a 0xC6 → isData (pick (eqb a k) p q) ≡ eqb a 0xC6
+elsewhere a k p q n hp hq =
+    pick-split (λ (t : Bool) (x : Place). isData x ≡ eqb a 0xC6) (eqb a k) p q
+    (λ e. hp ∙ sym (ap (λ (x : ℕ). eqb x 0xC6) (eqb-true a k e) ∙ n))
+    (λ _. hq)
+
+here : (a : ℕ) (q : Place) → (eqb a 0xC6 ≡ false → isData q ≡ false) → isData (pick (eqb a 0xC6) (Serial Udr0) q) ≡ eqb a 0xC6
+here a q h = pick-split (λ (t : Bool) (x : Place). isData x ≡ t) (eqb a 0xC6) (Serial Udr0) q (λ _. refl) h
+
+not-data : (t : Bool) (p q : Place) → isData p ≡ false → isData q ≡ false → isData (pick t p q) ≡ false
+not-data t p q hp hq = pick-ind (λ (x : Place). isData x ≡ false) t p q (λ _. hp) (λ _. hq)
+
+pub data-address : (a : ℕ) → isData (placeOf a) ≡ eqb a 0xC6
+unfolding placeOf
+data-address a =
+    elsewhere a 0xC0 _ _ refl refl
+    (elsewhere a 0xC1 _ _ refl refl
+    (elsewhere a 0xC2 _ _ refl refl
+    (elsewhere a 0xC4 _ _ refl refl
+    (elsewhere a 0xC5 _ _ refl refl
+    (here a _ (λ _. not-data (eqb a 0x4C) _ _ refl (not-data (eqb a 0x4D) _ _ refl (not-data (eqb a 0x4E) _ _ refl (not-data (eqb a 0x24) _ _ refl refl)))))))))
 
 pub serial-settled : (d : Device) (w : SerialWritten) → settled d (serialWritten d w) .usart ≡ serialSettled (d .usart) w
 serial-settled d (SerialDone u) = refl

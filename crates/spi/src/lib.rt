@@ -11,6 +11,7 @@ mod unit;
 pub use clock::Levels;
 pub use control::Control;
 pub use divisor::Clocks;
+pub use divisor::half;
 pub use flag::Flag;
 pub use flag::Flags;
 pub use register::Reading;

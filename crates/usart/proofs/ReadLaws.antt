@@ -19,14 +19,15 @@ use Rattle.usart.specs.declared.unit.Usart.{Usart}
 use Rattle.usart.specs.declared.write.Register.the-variants.{Udr0}
 
 -- flags in a byte, as in UCSR0A, each read back by its place
-pub record Flags (n : ℕ) (b7 b4 b3 b2 : Bool) : Type 0 where
+pub record Flags (n : ℕ) (b7 b5 b4 b3 b2 : Bool) : Type 0 where
   pub bit7 : bitAt n 7 ≡ digit b7
+  pub bit5 : bitAt n 5 ≡ digit b5
   pub bit4 : bitAt n 4 ≡ digit b4
   pub bit3 : bitAt n 3 ≡ digit b3
   pub bit2 : bitAt n 2 ≡ digit b2
 
 flags : (a b c d e g k : Bool)
-    → Flags (digit a * 128 + digit b * 64 + digit c * 32 + digit d * 16 + digit e * 8 + digit g * 4 + digit k * 2) a d e g
+    → Flags (digit a * 128 + digit b * 64 + digit c * 32 + digit d * 16 + digit e * 8 + digit g * 4 + digit k * 2) a c d e g
 flags a b c d e g k =
     let a1 = digit-le a in
     let b1 = digit-le b in
@@ -35,7 +36,7 @@ flags a b c d e g k =
     let e1 = digit-le e in
     let g1 = digit-le g in
     let k1 = digit-le k in
-    record { bit7 = omega arith; bit4 = omega arith; bit3 = omega arith; bit2 = omega arith }
+    record { bit7 = omega arith; bit5 = omega arith; bit4 = omega arith; bit3 = omega arith; bit2 = omega arith }
 
 digit-odd : (n : ℕ) → digit (eqb (n % 2) 1) ≡ n % 2
 digit-odd n = by (n % 2) (mod-lt n (lit≤ tt))
@@ -52,7 +53,7 @@ module _ (u : Usart) where
   abbrev udre : Bool
   udre = isVacant (u .sender .buffer)
 
-  pub status : Flags (ucsr0a u) rxc (oldest u .fe) (oldest u .dor) (oldest u .upe)
+  pub status : Flags (ucsr0a u) rxc udre (oldest u .fe) (oldest u .dor) (oldest u .upe)
   status = flags rxc (u .sender .txc) udre (oldest u .fe) (oldest u .dor) (oldest u .upe) (u .format .u2x)
 
   rxb8-bit : bitAt (ucsr0b u) 1 ≡ bitAt (oldest u .«data») 8
@@ -67,6 +68,9 @@ module _ (u : Usart) where
         digit-le (u .control .txen),
         digit-le (u .control .txb8),
       )
+
+  pub txb8-bit : bitAt (ucsr0b u) 0 ≡ digit (u .control .txb8)
+  txb8-bit = omega (arith, digit-le (u .control .txb8))
 
   -- what the firmware sees before a read of UDR0, and reads, is what is in the oldest frame
   pub seen-oldest : seenBy u ≡ seenIn (oldest u)

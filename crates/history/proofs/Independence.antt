@@ -1,0 +1,162 @@
+-- SPI traffic never changes a serial answer: what the serial side is answered is a function of the serial unit and the serial parts alone.
+use Prim.Native.Nat.{ℕ, _%_}
+use mathlib.Core.Bool.{Bool, true, false}
+use mathlib.Core.List.{List, [], _∷_, _++_, map}
+use mathlib.Core.Path.{_≡_, refl, sym, ap, ap₂, _∙_}
+use lib.Dec.{eqb}
+use Rattle.choice.specs.Pick.{pick}
+use Rattle.usart.specs.Event.{Event, clock, write as writes, read as reads, vector as takes, nextOf, finalOf}
+use Rattle.usart.specs.Read.{readOf as serialReadOf}
+use Rattle.usart.specs.Sending.{outputsOf as outputsAt}
+use Rattle.usart.specs.Unit.{clockOf, outputOf, requestsOf as serialRequests, resetUsart}
+use Rattle.usart.specs.Write.{numberOf as serialNumber, writeOf as serialWriteOf, vectorOf as serialVectorOf}
+use Rattle.usart.specs.declared.unit.Usart.{Usart}
+use Rattle.usart.specs.declared.write.Written.{Written as SerialWritten}
+use Rattle.usart.specs.declared.write.Written.the-variants.{Done as SerialDone, Refused as SerialRefused}
+use Rattle.spi.specs.Register.{vectorOf as spiVectorOf}
+use Rattle.device.specs.Address.{placeOf}
+use Rattle.device.specs.Answer.{answerOf, readAnswerOf, valueOf}
+use Rattle.device.specs.Register.{serialWritten, spiWritten, writeIn, readIn, readOf, vectorOf}
+use Rattle.device.specs.Serial.{isSerial, clocksOf, writesAt, readsAt, vectorsAt}
+use Rattle.device.specs.Unit.{rxdIn, requestsOf}
+use Rattle.device.specs.declared.address.Place.{Place}
+use Rattle.device.specs.declared.address.Place.the-variants.{Serial, Spi, Nowhere}
+use Rattle.device.specs.declared.answer.Refusal.the-variants.{Unknown}
+use Rattle.device.specs.declared.answer.Reading.{Reading}
+use Rattle.device.specs.declared.answer.Written.{Written}
+use Rattle.device.specs.declared.answer.Written.the-variants.{Refused}
+use Rattle.device.specs.declared.unit.Device.{Device}
+use Rattle.device.proofs.OutputLaws.{requests-serial}
+use Rattle.device.proofs.RegisterLaws.{number-serial}
+use Rattle.device.proofs.SerialLaws.{write-serial, read-serial, vector-serial}
+use Rattle.record.specs.Codec.{decodeOf}
+use Rattle.record.specs.declared.codec.Decoded.{Decoded}
+use Rattle.record.specs.declared.codec.Decoded.the-variants.{Accepted}
+use Rattle.record.proofs.Round.{decode-length}
+use Rattle.warpmagpie.specs.Calls.{requestsValueOn}
+use Rattle.history.specs.Call.{Call, reset, write, read, vector, run, report, recordAfter, finalRecord, Passable, serialIn, usartOf}
+use Rattle.history.specs.Serial.{Serial as Part, event, resets, reports, serialPart, serialParts, Answer, number, value, txd, requests, serialAnswer, serialAnswers, Alike, Agree}
+use Rattle.history.proofs.StepLaws.{nextDevice, reset-done, write-on, read-on, vector-on, induct}
+use Rattle.history.proofs.ViewLaws.{runs, runs-is, ran-serial}
+use Rattle.history.proofs.SendingLine.{txd-by}
+
+-- what a part does to the serial unit, and what it is answered
+abbrev afterPart : Usart → Part → Usart
+afterPart u (event e) = nextOf u e
+afterPart u resets = resetUsart
+afterPart u reports = u
+
+abbrev numberIn : SerialWritten → ℕ
+numberIn (SerialDone u) = 0
+numberIn (SerialRefused r) = serialNumber r
+
+abbrev answerAt : Usart → Part → Answer
+answerAt u (event (clock rxd)) = txd (outputOf (clockOf u rxd))
+answerAt u (event (writes r v)) = number (numberIn (serialWriteOf u r v))
+answerAt u (event (reads r)) = value 0 (serialReadOf u r .value)
+answerAt u (event takes) = number (numberIn (serialVectorOf u))
+answerAt u resets = number 0
+answerAt u reports = requests (serialRequests u)
+
+abbrev lastOf : Usart → List Part → Usart
+lastOf u [] = u
+lastOf u (x ∷ xs) = lastOf (afterPart u x) xs
+
+abbrev answersAt : Usart → List Part → List Answer
+answersAt u [] = []
+answersAt u (x ∷ xs) = answerAt u x ∷ answersAt (afterPart u x) xs
+
+answers-append : (u : Usart) (xs ys : List Part) → answersAt u (xs ++ ys) ≡ answersAt u xs ++ answersAt (lastOf u xs) ys
+answers-append u [] ys = refl
+answers-append u (x ∷ xs) ys = ap (_∷_ (answerAt u x)) (answers-append (afterPart u x) xs ys)
+
+last-append : (u : Usart) (xs ys : List Part) → lastOf u (xs ++ ys) ≡ lastOf (lastOf u xs) ys
+last-append u [] ys = refl
+last-append u (x ∷ xs) ys = last-append (afterPart u x) xs ys
+
+last-events : (u : Usart) (es : List Event) → lastOf u (map event es) ≡ finalOf u es
+last-events u [] = refl
+last-events u (e ∷ es) = last-events (nextOf u e) es
+
+-- the answers of each call
+answer-written : (d : Device) (w : SerialWritten) → answerOf (serialWritten d w) ≡ numberIn w
+answer-written d (SerialDone u) = refl
+answer-written d (SerialRefused r) = number-serial r
+
+write-at : (d : Device) (p : Place) (v : ℕ) → pick (isSerial p) (number (answerOf (writeIn d p v)) ∷ []) [] ≡ answersAt (d .usart) (map event (writesAt p v))
+write-at d (Serial r) v = ap (λ (n : ℕ). number n ∷ []) (answer-written d (serialWriteOf (d .usart) r v))
+write-at d (Spi r) v = refl
+write-at d Nowhere v = refl
+
+read-at : (d : Device) (p : Place) → pick (isSerial p) (value (readAnswerOf (readIn d p)) (valueOf (readIn d p)) ∷ []) [] ≡ answersAt (d .usart) (map event (readsAt p))
+read-at d (Serial r) = refl
+read-at d (Spi r) = refl
+read-at d Nowhere = refl
+
+vector-in : (d : Device) (a b : Bool)
+    → pick a (number (answerOf (pick a (serialWritten d (serialVectorOf (d .usart))) (pick b (spiWritten d (spiVectorOf (d .spi))) (Refused Unknown)))) ∷ []) []
+    ≡ answersAt (d .usart) (map event (pick a (takes ∷ []) []))
+vector-in d true b = ap (λ (n : ℕ). number n ∷ []) (answer-written d (serialVectorOf (d .usart)))
+vector-in d false b = refl
+
+vector-at : (d : Device) (n : ℕ) → pick (eqb n 0) (number (answerOf (vectorOf d n)) ∷ []) [] ≡ answersAt (d .usart) (map event (vectorsAt n))
+unfolding vectorOf vectorsAt
+vector-at d n = vector-in d (eqb n 0) (eqb n 1)
+
+clocks-at : (u : Usart) (ls : List ℕ) → map txd (outputsAt u (clocksOf ls)) ≡ answersAt u (map event (clocksOf ls))
+clocks-at u [] = refl
+clocks-at u (l ∷ ls) = ap (_∷_ (txd (outputOf (clockOf u (rxdIn l))))) (clocks-at (clockOf u (rxdIn l)) ls)
+
+run-at : (u : Usart) (t : Bool) (ls : List ℕ) → map txd (outputsAt u (pick t (clocksOf ls) [])) ≡ answersAt u (map event (pick t (clocksOf ls) []))
+run-at u true ls = clocks-at u ls
+run-at u false ls = refl
+
+requests-are : (s : List ℕ) (d : Device) → decodeOf s ≡ Accepted d → requestsValueOn (decodeOf s) ≡ requestsOf d
+unfolding requestsValueOn
+requests-are s d h = ap requestsValueOn h
+
+answer-by : (s : List ℕ) (d : Device) → decodeOf s ≡ Accepted d → (c : Call) → serialAnswer s c ≡ answersAt (d .usart) (serialPart s c)
+answer-by s d h reset = ap (λ (w : Written). number (answerOf w) ∷ []) (reset-done s (decode-length s d h))
+answer-by s d h (write a v) =
+    ap (λ (w : Written). pick (isSerial (placeOf a)) (number (answerOf w) ∷ []) []) (write-on s d h a v) ∙ write-at d (placeOf a) v
+answer-by s d h (read a) =
+    ap (λ (g : Reading). pick (isSerial (placeOf a)) (value (readAnswerOf g) (valueOf g) ∷ []) []) (read-on s d h a) ∙ read-at d (placeOf a)
+answer-by s d h (vector n) = ap (λ (w : Written). pick (eqb n 0) (number (answerOf w) ∷ []) []) (vector-on s d h n) ∙ vector-at d n
+answer-by s d h (run ls os) =
+    ap (map txd) (txd-by s d h (run ls os)) ∙ run-at (d .usart) (runs d ls os) ls
+    ∙ ap (λ (t : Bool). answersAt (d .usart) (map event (pick t (clocksOf ls) []))) (sym (runs-is s d h ls os))
+answer-by s d h report = ap (λ (n : ℕ). requests n ∷ []) (ap (λ (n : ℕ). n % 8) (requests-are s d h) ∙ requests-serial d)
+
+-- the serial unit after each call
+part-of : (s : List ℕ) (d : Device) → decodeOf s ≡ Accepted d → (c : Call) → nextDevice d c .usart ≡ lastOf (d .usart) (serialPart s c)
+part-of s d h reset = refl
+part-of s d h (write a v) = write-serial d a v ∙ sym (last-events (d .usart) (writesAt (placeOf a) v))
+part-of s d h (read a) = read-serial d a ∙ sym (last-events (d .usart) (readsAt (placeOf a)))
+part-of s d h (vector n) = vector-serial d n ∙ sym (last-events (d .usart) (vectorsAt n))
+part-of s d h (run ls os) =
+    ran-serial d ls os ∙ sym (last-events (d .usart) (pick (runs d ls os) (clocksOf ls) []))
+    ∙ ap (λ (t : Bool). lastOf (d .usart) (map event (pick t (clocksOf ls) []))) (sym (runs-is s d h ls os))
+part-of s d h report = refl
+
+answers-view : (s : List ℕ) (d : Device) (cs : List Call) → decodeOf s ≡ Accepted d → Passable cs → serialAnswers s cs ≡ answersAt (d .usart) (serialParts s cs)
+answers-view =
+    induct (λ (s : List ℕ) (d : Device) (cs : List Call). serialAnswers s cs ≡ answersAt (d .usart) (serialParts s cs))
+    (λ s d h. refl)
+    (λ s d c cs h k.
+    let rest = serialParts (recordAfter s c) cs in
+    ap₂ (_++_) (answer-by s d h c) (k ∙ ap (λ (u : Usart). answersAt u rest) (part-of s d h c)) ∙ sym (answers-append (d .usart) (serialPart s c) rest))
+
+final-parts : (s : List ℕ) (d : Device) (cs : List Call) → decodeOf s ≡ Accepted d → Passable cs → usartOf (finalRecord s cs) ≡ lastOf (d .usart) (serialParts s cs)
+final-parts =
+    induct (λ (s : List ℕ) (d : Device) (cs : List Call). usartOf (finalRecord s cs) ≡ lastOf (d .usart) (serialParts s cs))
+    (λ s d h. ap serialIn h)
+    (λ s d c cs h k.
+    let rest = serialParts (recordAfter s c) cs in
+    k ∙ ap (λ (u : Usart). lastOf u rest) (part-of s d h c) ∙ sym (last-append (d .usart) (serialPart s c) rest))
+
+pub independent : (d e : Device) (s t : List ℕ) (cs ds : List Call) → Alike d e s t cs ds → Agree s t cs ds
+independent d e s t cs ds a = record {
+  answers =
+      answers-view s d cs (a .first) (a .passable) ∙ ap₂ answersAt (a .one) (a .same) ∙ sym (answers-view t e ds (a .second) (a .passableToo));
+  final = final-parts s d cs (a .first) (a .passable) ∙ ap₂ lastOf (a .one) (a .same) ∙ sym (final-parts t e ds (a .second) (a .passableToo));
+}

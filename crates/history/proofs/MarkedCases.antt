@@ -1,0 +1,91 @@
+-- M1 to M10.
+use Prim.Native.Nat.{ℕ, _+_, _*_, _≤_}
+use mathlib.Core.Bool.{Bool, true, false}
+use mathlib.Core.List.{List, [], _∷_, _++_}
+use mathlib.Core.Path.{_≡_, refl, ap, _∙_}
+use native.Mathlib.Omega.{arith}
+use lib.Dec.{lit≤}
+use Rattle.choice.specs.Pick.{pick}
+use Rattle.frame.specs.Format.{dataBits, parityBits, lastBit}
+use Rattle.frame.specs.Parity.{sumOfBits}
+use Rattle.frame.specs.Word.{frameBit, parityError}
+use Rattle.frame.specs.declared.format.Format.{Format}
+use Rattle.frame.specs.declared.format.Parity.{Parity}
+use Rattle.frame.specs.declared.format.Parity.the-variants.{Off, Even, Odd}
+use Rattle.frame.specs.declared.format.Size.{Size}
+use Rattle.frame.specs.declared.format.Size.the-variants.{Five, Six, Seven, Eight, Nine}
+use Rattle.usart.specs.Baud.{leftOf}
+use Rattle.usart.specs.Line.{lineLevel}
+use Rattle.usart.specs.Receiver.{listenedOf, enabledOf}
+use Rattle.usart.specs.Sampler.{idleOf, castOf, nextBitOf, shiftedOf, decidedOf, votedOf, sampledOf, samplerOf}
+use Rattle.usart.specs.Sender.{steppedOf}
+use Rattle.usart.specs.Settings.{codeOf, sizeOf}
+use Rattle.usart.specs.Unit.{isBusy, clockOf, isDriven, outputOf}
+use Rattle.usart.specs.Write.{formattedOf, clearedOf, writeA, isReservedC, sizedC, writeC, transmittedOf}
+use Rattle.spi.specs.Unit.{outputOf as spiOutput}
+use Rattle.spi.specs.Clock.{steppedOf as spiStepped}
+use Rattle.spi.proofs.Transfers.{m7}
+use Rattle.device.specs.Address.{placeOf}
+use Rattle.device.specs.Answer.{answerOf}
+use Rattle.device.specs.Register.{writeOf}
+use Rattle.device.specs.Run.{ranOf}
+use Rattle.device.specs.declared.unit.Device.{Device}
+use Rattle.history.specs.Marked.{bitClocks, M1, M2, M4, M6, M7, M8, M9, M10, sending, statusBits, zeros, fourFrames, lineFrom, listening, heard, overrun, cases, Each}
+
+m1 : M1
+m1 f e = rw e
+
+m2 : M2
+m2 f e = rw e
+
+-- the lengths of frames, by the sizes and parities
+size-bits : (z : Size) → (5 ≤ dataBits z) × (dataBits z ≤ 9)
+size-bits Five = (lit≤ tt, lit≤ tt)
+size-bits Six = (lit≤ tt, lit≤ tt)
+size-bits Seven = (lit≤ tt, lit≤ tt)
+size-bits Eight = (lit≤ tt, lit≤ tt)
+size-bits Nine = (lit≤ tt, lit≤ tt)
+
+parity-bits : (p : Parity) → parityBits p ≤ 1
+parity-bits Off = lit≤ tt
+parity-bits Even = lit≤ tt
+parity-bits Odd = lit≤ tt
+
+stop-bits : (b : Bool) → (1 ≤ pick b 2 1) × (pick b 2 1 ≤ 2)
+stop-bits true = (lit≤ tt, lit≤ tt)
+stop-bits false = (lit≤ tt, lit≤ tt)
+
+m4 : M4
+m4 = (
+  λ f.
+      let z = size-bits (f .size) in
+      let p = parity-bits (f .parity) in
+      let s = stop-bits (f .usbs) in (omega (arith, z .0, s .0), omega (arith, z .1, s .1)),
+  (
+    (record { size = Five; parity = Off; usbs = false; u2x = false }, refl),
+    (record { size = Nine; parity = Even; usbs = true; u2x = false }, refl),
+  ),
+)
+
+m6 : M6
+unfolding placeOf isReservedC writeC sizeOf
+m6 d e = rw e
+
+m8 : M8
+unfolding sending statusBits zeros placeOf leftOf steppedOf listenedOf enabledOf isBusy clockOf isDriven outputOf formattedOf sizeOf transmittedOf frameBit spiStepped spiOutput sumOfBits
+m8 v = (refl, (refl, (refl, refl)))
+
+m9 : M9
+m9 = (
+  ((lit≤ tt, lit≤ tt), (lit≤ tt, lit≤ tt)),
+  (λ w. let x : 24000 ≤ 23640 = w .0 in omega arith, λ w. let x : 25000 ≤ 24375 = w .1 in omega arith),
+)
+
+m10 : M10
+unfolding overrun heard listening lineFrom fourFrames ranOf placeOf leftOf steppedOf listenedOf enabledOf isBusy clockOf formattedOf clearedOf writeA sizeOf frameBit lineLevel spiStepped sumOfBits idleOf castOf nextBitOf shiftedOf decidedOf votedOf sampledOf samplerOf parityError
+m10 = refl
+
+pub marked : Each cases
+unfolding sumOfBits
+marked =
+    (m1, (m2, ((refl, refl), (m4, (refl, (m6, ((λ s v es l m k n e. m7 s v es l m k .0 n e, λ s v es l m k n e. m7 s v es l m k .1 n e), (m8, (m9, (m10, tt))))))))))

@@ -1,0 +1,155 @@
+-- The sender's line, for every list of calls on a record: what its statement says of calls, said of the serial unit's events, and the theorem.
+use Prim.Native.Nat.{ℕ, _+_, _*_}
+use mathlib.Core.Bool.{Bool, true, false}
+use mathlib.Core.List.{List, [], _∷_, _++_, map, append-nil}
+use mathlib.Core.Path.{_≡_, refl, sym, ap, ap₂, subst, _∙_}
+use lib.Dec.{eqb}
+use lib.ListN.{length}
+use Rattle.choice.specs.Pick.{pick, digit}
+use Rattle.choice.proofs.Digits.{digit-is}
+use Rattle.choice.proofs.Picks.{pick-ind}
+use Rattle.frame.specs.Format.{samples}
+use Rattle.frame.specs.Word.{dataOf}
+use Rattle.usart.specs.Event.{Event, isUdr0}
+use Rattle.usart.specs.Line.{lineLevel}
+use Rattle.usart.specs.Read.{ucsr0a, ucsr0b}
+use Rattle.usart.specs.Receiving.{bitAt}
+use Rattle.usart.specs.Sender.{isVacant}
+use Rattle.usart.specs.Sending.{waiting, Drives, dataIn, outputsOf as outputsAt, acceptedOf as acceptedAt, MaySend as MaySendAt, Sends as SendsAt}
+use Rattle.usart.specs.Unit.{clockOf}
+use Rattle.usart.specs.declared.unit.Usart.{Usart}
+use Rattle.usart.proofs.AppendLaws.{outputs-append, accepted-append}
+use Rattle.usart.proofs.ReadLaws.{status, txb8-bit}
+use Rattle.usart.proofs.SendingLine.{sends as sends-at}
+use Rattle.device.specs.Address.{placeOf}
+use Rattle.device.specs.Answer.{answerOf}
+use Rattle.device.specs.Output.{txdBits}
+use Rattle.device.specs.Run.{ranOf, outputsOf, areLevels}
+use Rattle.device.specs.Serial.{isData, clocksOf, writesAt, readsAt, vectorsAt}
+use Rattle.device.specs.Unit.{rxdIn}
+use Rattle.device.specs.declared.address.Place.{Place}
+use Rattle.device.specs.declared.address.Place.the-variants.{Serial, Spi, Nowhere}
+use Rattle.device.specs.declared.answer.Refusal.the-variants.{Length, Level}
+use Rattle.device.specs.declared.answer.Written.{Written}
+use Rattle.device.specs.declared.answer.Written.the-variants.{Done, Refused}
+use Rattle.device.specs.declared.unit.Device.{Device}
+use Rattle.device.proofs.SerialLaws.{data-address, outputs-serial}
+use Rattle.record.specs.Codec.{decodeOf}
+use Rattle.record.specs.declared.codec.Decoded.{Decoded}
+use Rattle.record.specs.declared.codec.Decoded.the-variants.{Accepted}
+use Rattle.record.proofs.Round.{decode-valid}
+use Rattle.warpmagpie.specs.Calls.{shown, runOn, outputsOn}
+use Rattle.history.specs.Call.{Call, reset, write, read, vector, run, report, Passable, serialIn, usartOf, OnlyData}
+use Rattle.history.specs.Sending.{MaySend, acceptedBy, acceptedOf, txdBy, txdOf, Sends}
+use Rattle.history.proofs.StepLaws.{induct}
+use Rattle.history.proofs.ViewLaws.{runs, eventsOf, viewOf, along, final-view}
+use Rattle.history.proofs.ReceivingView.{ucsr0a-is, ucsr0b-is, only-view}
+
+-- what a write of UDR0 gives the buffer
+abbrev given : Usart → ℕ → List ℕ
+given u v = pick (isVacant (u .sender .buffer)) (dataOf (u .format) (digit (u .control .txb8) * 256 + v) ∷ []) []
+
+given-in : (u : Usart) (p : Place) (v : ℕ) → pick (isData p) (given u v) [] ≡ acceptedAt u (writesAt p v)
+given-in u (Serial r) v = sym (append-nil (pick (isUdr0 r) (given u v) []))
+given-in u (Spi r) v = refl
+given-in u Nowhere v = refl
+
+read-gives : (u : Usart) (p : Place) → [] ≡ acceptedAt u (readsAt p)
+read-gives u (Serial r) = refl
+read-gives u (Spi r) = refl
+read-gives u Nowhere = refl
+
+vector-gives : (u : Usart) (n : ℕ) → [] ≡ acceptedAt u (vectorsAt n)
+unfolding vectorsAt
+vector-gives u n = pick-ind (λ (es : List Event). [] ≡ acceptedAt u es) (eqb n 0) _ _ (λ _. refl) (λ _. refl)
+
+clocks-give : (u : Usart) (ls : List ℕ) → [] ≡ acceptedAt u (clocksOf ls)
+clocks-give u [] = refl
+clocks-give u (l ∷ ls) = clocks-give (clockOf u (rxdIn l)) ls
+
+write-gives : (s : List ℕ) (d : Device) → decodeOf s ≡ Accepted d → (a v : ℕ) → acceptedBy s (write a v) ≡ acceptedAt (d .usart) (writesAt (placeOf a) v)
+write-gives s d h a v =
+    let u = d .usart in
+    let e : usartOf s ≡ u = ap serialIn h in
+    let udre : eqb (bitAt (ucsr0a u) 5) 1 ≡ isVacant (u .sender .buffer) = ap (λ (x : ℕ). eqb x 1) (status u .bit5) ∙ digit-is (isVacant (u .sender .buffer)) in
+    rw (ucsr0a-is s d h, ucsr0b-is s d h, udre, txb8-bit u, e, ← data-address a) (given-in u (placeOf a) v)
+
+accepted-by : (s : List ℕ) (d : Device) → decodeOf s ≡ Accepted d → (c : Call) → acceptedBy s c ≡ acceptedAt (d .usart) (eventsOf d c)
+accepted-by s d h reset = refl
+accepted-by s d h (write a v) = write-gives s d h a v
+accepted-by s d h (read a) = read-gives (d .usart) (placeOf a)
+accepted-by s d h (vector n) = vector-gives (d .usart) n
+accepted-by s d h (run ls os) =
+    pick-ind (λ (es : List Event). [] ≡ acceptedAt (d .usart) es) (runs d ls os) _ _ (λ _. clocks-give (d .usart) ls) (λ _. refl)
+accepted-by s d h report = refl
+
+accepted-view : (s : List ℕ) (d : Device) (cs : List Call) → decodeOf s ≡ Accepted d → Passable cs → OnlyData s cs → acceptedOf s cs ≡ acceptedAt (d .usart) (viewOf d cs)
+accepted-view =
+    induct (λ (s : List ℕ) (d : Device) (cs : List Call). OnlyData s cs → acceptedOf s cs ≡ acceptedAt (d .usart) (viewOf d cs))
+    (λ s d h o. refl)
+    (λ s d c cs h k o. along acceptedAt accepted-append s d c cs (o .0) (accepted-by s d h c) (k (o .1)))
+
+-- only a run shows outputs
+write-shows : (u : Usart) (p : Place) (v : ℕ) → [] ≡ outputsAt u (writesAt p v)
+write-shows u (Serial r) v = refl
+write-shows u (Spi r) v = refl
+write-shows u Nowhere v = refl
+
+read-shows : (u : Usart) (p : Place) → [] ≡ outputsAt u (readsAt p)
+read-shows u (Serial r) = refl
+read-shows u (Spi r) = refl
+read-shows u Nowhere = refl
+
+vector-shows : (u : Usart) (n : ℕ) → [] ≡ outputsAt u (vectorsAt n)
+unfolding vectorsAt
+vector-shows u n = pick-ind (λ (es : List Event). [] ≡ outputsAt u es) (eqb n 0) _ _ (λ _. refl) (λ _. refl)
+
+shown-in : (d : Device) (a b : Bool) (ls os : List ℕ) (w : Written) → w ≡ pick a (pick b (Done (ranOf d ls)) (Refused Level)) (Refused Length)
+    → pick (eqb (answerOf w) 0) (map txdBits (shown os (outputsOf d ls) w)) [] ≡ outputsAt (d .usart) (pick (eqb (answerOf w) 0) (clocksOf ls) [])
+shown-in d true true ls os w e = rw e (outputs-serial d ls)
+shown-in d true false ls os w e = rw e
+shown-in d false b ls os w e = rw e
+
+run-shows : (d : Device) (ls os : List ℕ)
+    → pick (runs d ls os) (map txdBits (shown os (outputsOn (Accepted d) ls) (runOn (Accepted d) ls os))) [] ≡ outputsAt (d .usart) (eventsOf d (run ls os))
+unfolding runOn outputsOn
+run-shows d ls os = shown-in d (eqb (length os) (length ls)) (areLevels ls) ls os _ refl
+
+pub txd-by : (s : List ℕ) (d : Device) → decodeOf s ≡ Accepted d → (c : Call) → txdBy s c ≡ outputsAt (d .usart) (eventsOf d c)
+txd-by s d h reset = refl
+txd-by s d h (write a v) = write-shows (d .usart) (placeOf a) v
+txd-by s d h (read a) = read-shows (d .usart) (placeOf a)
+txd-by s d h (vector n) = vector-shows (d .usart) n
+txd-by s d h (run ls os) =
+    ap (λ (x : Decoded). pick (eqb (answerOf (runOn x ls os)) 0) (map txdBits (shown os (outputsOn x ls) (runOn x ls os))) []) h ∙ run-shows d ls os
+txd-by s d h report = refl
+
+txd-view : (s : List ℕ) (d : Device) (cs : List Call) → decodeOf s ≡ Accepted d → Passable cs → OnlyData s cs → txdOf s cs ≡ outputsAt (d .usart) (viewOf d cs)
+txd-view =
+    induct (λ (s : List ℕ) (d : Device) (cs : List Call). OnlyData s cs → txdOf s cs ≡ outputsAt (d .usart) (viewOf d cs))
+    (λ s d h o. refl)
+    (λ s d c cs h k o. along outputsAt outputs-append s d c cs (o .0) (txd-by s d h c) (k (o .1)))
+
+pub sends : (d : Device) (s : List ℕ) (cs : List Call) → MaySend d s cs → Sends d s cs
+sends d s cs m =
+    let u = d .usart in
+    let v = m .valid in
+    let p = m .passable in
+    let o = m .onlyData in
+    let es = viewOf d cs in
+    let r : SendsAt u es = sends-at u es (record {
+      enabled = m .enabled;
+      resting = m .resting;
+      buffer = decode-valid s d v .usart .sender .buffer;
+      onlyData = only-view s d cs v p o;
+    }) in
+    record {
+      begun = r .begun;
+      fits = r .fits;
+      spaced = r .spaced;
+      drives =
+          subst (Drives (lineLevel (u .format) (samples (u .format) * (u .baud .ubrr + 1)) 1 (r .begun)) 0) (sym (txd-view s d cs v p o)) (r .drives);
+      exactly =
+          ap (λ (x : Usart). map dataIn (r .begun) ++ waiting (x .sender .buffer)) (final-view s d cs v p o)
+          ∙ r .exactly ∙ ap (λ (xs : List ℕ). waiting (u .sender .buffer) ++ xs) (sym (accepted-view s d cs v p o));
+    }

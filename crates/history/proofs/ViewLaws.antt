@@ -1,0 +1,94 @@
+-- The serial view of a history: the serial unit's events. What the statements say of calls on a record is what the unit's own say of them.
+use Prim.Native.Nat.{ℕ, _+_, _*_, _<_}
+use mathlib.Core.Bool.{Bool, true, false}
+use mathlib.Core.List.{List, [], _∷_, _++_, map, append-nil}
+use mathlib.Core.Path.{_≡_, refl, sym, ap, ap₂, subst, _∙_}
+use native.Mathlib.Omega.{arith}
+use lib.Dec.{eqb}
+use lib.ListN.{length}
+use borrow.Author.Tests.{eqb-true, eq-eqb}
+use Rattle.choice.specs.Pick.{pick}
+use Rattle.choice.proofs.Picks.{split}
+use Rattle.usart.specs.Event.{Event, finalOf, isRefused, isUdr0, levelsOf, OnlyData as OnlyDataAt}
+use Rattle.usart.specs.Receiving.{Seen, Free as FreeAt, seenBy as seenAt, readsOf as readsIn, entriesOf as entriesAt}
+use Rattle.usart.specs.Sending.{outputsOf as outputsAt, acceptedOf as acceptedAt}
+use Rattle.usart.specs.Write.{writeOf as serialWriteOf}
+use Rattle.usart.specs.declared.unit.Usart.{Usart}
+use Rattle.usart.specs.declared.write.Register.{Register}
+use Rattle.usart.specs.declared.write.Written.{Written as SerialWritten}
+use Rattle.usart.specs.declared.write.Written.the-variants.{Done as SerialDone, Refused as SerialRefused}
+use Rattle.usart.proofs.AppendLaws.{final-append, levels-append, only-append, free-append, reads-append, entries-append, outputs-append, accepted-append}
+use Rattle.device.specs.Address.{placeOf}
+use Rattle.device.specs.Answer.{answerOf, settled}
+use Rattle.device.specs.Register.{serialWritten}
+use Rattle.device.specs.Run.{ranOf, areLevels}
+use Rattle.device.specs.Serial.{isSerial, isData, clocksOf, writesAt, readsAt, vectorsAt}
+use Rattle.device.specs.Unit.{rxdIn}
+use Rattle.device.specs.declared.address.Place.{Place}
+use Rattle.device.specs.declared.address.Place.the-variants.{Serial, Spi, Nowhere}
+use Rattle.device.specs.declared.answer.Refusal.the-variants.{Length, Level}
+use Rattle.device.specs.declared.answer.Written.{Written}
+use Rattle.device.specs.declared.answer.Written.the-variants.{Done, Refused}
+use Rattle.device.specs.declared.unit.Device.{Device}
+use Rattle.device.proofs.SerialLaws.{data-address, write-serial, read-serial, vector-serial, run-serial, levels-serial, outputs-serial}
+use Rattle.record.specs.Codec.{decodeOf}
+use Rattle.record.specs.declared.codec.Decoded.{Decoded}
+use Rattle.record.specs.declared.codec.Decoded.the-variants.{Accepted}
+use Rattle.warpmagpie.specs.Calls.{runOn}
+use Rattle.history.specs.Call.{Call, reset, write, read, vector, run, report, recordAfter, finalRecord, Passable, serialIn, usartOf, OnlyDataCall, OnlyData, isRun, rxdBy, rxdOf}
+use Rattle.history.proofs.StepLaws.{nextDevice, run-on, step, induct}
+
+-- a run on a record of d is done
+abbrev pub runs : Device → List ℕ → List ℕ → Bool
+runs d ls os = eqb (answerOf (runOn (Accepted d) ls os)) 0
+
+-- the events of a call; a reset is none
+abbrev pub eventsOf : Device → Call → List Event
+eventsOf d reset = []
+eventsOf d (write a v) = writesAt (placeOf a) v
+eventsOf d (read a) = readsAt (placeOf a)
+eventsOf d (vector n) = vectorsAt n
+eventsOf d (run ls os) = pick (runs d ls os) (clocksOf ls) []
+eventsOf d report = []
+
+abbrev pub viewOf : Device → List Call → List Event
+viewOf d [] = []
+viewOf d (c ∷ cs) = eventsOf d c ++ viewOf (nextDevice d c) cs
+
+pub runs-is : (s : List ℕ) (d : Device) → decodeOf s ≡ Accepted d → (ls os : List ℕ) → isRun s ls os ≡ runs d ls os
+runs-is s d h ls os = ap (λ (w : Written). eqb (answerOf w) 0) (run-on s d h ls os)
+
+run-in : (d : Device) (a b : Bool) (ls : List ℕ)
+    → settled d (pick a (pick b (Done (ranOf d ls)) (Refused Level)) (Refused Length)) .usart
+    ≡ finalOf (d .usart) (pick (eqb (answerOf (pick a (pick b (Done (ranOf d ls)) (Refused Level)) (Refused Length))) 0) (clocksOf ls) [])
+run-in d true true ls = run-serial d ls
+run-in d true false ls = refl
+run-in d false b ls = refl
+
+pub ran-serial : (d : Device) (ls os : List ℕ) → nextDevice d (run ls os) .usart ≡ finalOf (d .usart) (eventsOf d (run ls os))
+unfolding runOn
+ran-serial d ls os = run-in d (eqb (length os) (length ls)) (areLevels ls) ls
+
+-- a call but reset does to the serial unit what its events do
+pub next-usart : (s : List ℕ) (d : Device) (c : Call) → OnlyDataCall s c → nextDevice d c .usart ≡ finalOf (d .usart) (eventsOf d c)
+next-usart s d reset o = absurd o
+next-usart s d (write a v) o = write-serial d a v
+next-usart s d (read a) o = read-serial d a
+next-usart s d (vector n) o = vector-serial d n
+next-usart s d (run ls os) o = ran-serial d ls os
+next-usart s d report o = refl
+
+-- what of a list is made of its parts, made of a call's and of the rest's
+pub along : {A : Type 0} (Y : Usart → List Event → List A) → ((u : Usart) (es fs : List Event) → Y u (es ++ fs) ≡ Y u es ++ Y (finalOf u es) fs)
+    → (s : List ℕ) (d : Device) (c : Call) (cs : List Call) → OnlyDataCall s c → {x y : List A}
+    → x ≡ Y (d .usart) (eventsOf d c) → y ≡ Y (nextDevice d c .usart) (viewOf (nextDevice d c) cs) → x ++ y ≡ Y (d .usart) (viewOf d (c ∷ cs))
+along Y append s d c cs o {x} {y} hx hy =
+    ap₂ (_++_) hx (hy ∙ ap (λ (u : Usart). Y u (viewOf (nextDevice d c) cs)) (next-usart s d c o)) ∙ sym (append (d .usart) (eventsOf d c) (viewOf (nextDevice d c) cs))
+
+pub final-view : (s : List ℕ) (d : Device) (cs : List Call) → decodeOf s ≡ Accepted d → Passable cs → OnlyData s cs
+    → usartOf (finalRecord s cs) ≡ finalOf (d .usart) (viewOf d cs)
+final-view =
+    induct (λ (s : List ℕ) (d : Device) (cs : List Call). OnlyData s cs → usartOf (finalRecord s cs) ≡ finalOf (d .usart) (viewOf d cs))
+    (λ s d h o. ap serialIn h)
+    (λ s d c cs h k o.
+    k (o .1) ∙ ap (λ (u : Usart). finalOf u (viewOf (nextDevice d c) cs)) (next-usart s d c (o .0)) ∙ sym (final-append (d .usart) (eventsOf d c) (viewOf (nextDevice d c) cs)))

@@ -1,0 +1,5 @@
+pub mod Call
+pub mod Receiving
+pub mod Sending
+pub mod Serial
+pub mod Marked

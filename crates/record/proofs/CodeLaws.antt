@@ -1,0 +1,93 @@
+-- Laws of codes, words and parts: each is had again from what the bytes hold of it. Assumes nothing.
+use Prim.Native.Nat.{ℕ, zero, suc, _+_, _-_, _*_, _/_, _%_, _^_, _<_, _≤_}
+use mathlib.Core.Bool.{Bool, true, false, not}
+use mathlib.Core.Path.{_≡_, refl, sym, ap, _∙_}
+use native.Mathlib.Nat.{pow-suc, pow-le-pow-right}
+use native.Mathlib.Omega.{arith}
+use lib.Dec.{eqb}
+use Rattle.frame.specs.Format.{dataBits, wordBits}
+use Rattle.frame.specs.declared.format.Size.{Size}
+use Rattle.frame.specs.declared.format.Size.the-variants.{Five, Six, Seven, Eight, Nine}
+use Rattle.frame.specs.declared.format.Parity.{Parity}
+use Rattle.frame.specs.declared.format.Parity.the-variants.{Off, Even, Odd}
+use Rattle.frame.specs.declared.format.Format.{Format}
+use Rattle.frame.proofs.FormatLaws.{data-bits-range, word-bits-range}
+use Rattle.usart.specs.Settings.{codeOf, sizeOf, upmOf, parityOf}
+use Rattle.usart.specs.Sender.{isVacant, isResting}
+use Rattle.usart.specs.Sampler.{isReceiving}
+use Rattle.usart.specs.Queue.{oldestOf}
+use Rattle.usart.specs.declared.sender.Buffer.{Buffer}
+use Rattle.usart.specs.declared.sender.Buffer.the-variants.{Vacant, Full}
+use Rattle.usart.specs.declared.sender.Shifter.{Shifter}
+use Rattle.usart.specs.declared.sender.Shifter.the-variants.{Resting, Sending}
+use Rattle.usart.specs.declared.sampler.Sampler.{Sampler}
+use Rattle.usart.specs.declared.sampler.Sampler.the-variants.{Idle, Receiving}
+use Rattle.usart.specs.declared.queue.Places.{Places}
+use Rattle.usart.specs.declared.queue.Places.the-variants.{Empty, One, Two}
+use Rattle.spi.specs.declared.flag.Flag.{Flag}
+use Rattle.spi.specs.declared.flag.Flag.the-variants.{Clear, Set, Armed}
+use Rattle.record.specs.Codes.{knownSize, flagCode, flagOf}
+use Rattle.record.specs.Parts.{dataIn, bufferOf, transmissionIn, shifterOf, rememberedIn, receptionIn, samplerOf, heldCount, secondIn, placesOf}
+use Rattle.record.specs.Layout.{low, high, bit}
+
+half-power : (n : ℕ) → 1 ≤ n → 2 ^ (n - 1) * 2 ≡ 2 ^ n
+half-power zero h = absurd (omega arith)
+half-power (suc n) h = ap (λ (k : ℕ). 2 ^ k * 2) (let e : suc n - 1 ≡ n = omega arith in e) ∙ sym (pow-suc 2 n)
+
+-- twice the weight of a word's highest bit
+pub limit-top : (f : Format) → 2 ^ (wordBits f - 1) * 2 ≡ 2 ^ wordBits f
+limit-top f = half-power (wordBits f) (let r = word-bits-range f in omega arith)
+
+pub data-limit : (z : Size) → 2 ^ dataBits z ≤ 512
+data-limit z = pow-le-pow-right {n = 2} (omega arith) {i = dataBits z} {j = 9} (data-bits-range z .1)
+
+pub word-limit : (f : Format) → 2 ^ wordBits f ≤ 1024
+word-limit f = pow-le-pow-right {n = 2} (omega arith) {i = wordBits f} {j = 10} (word-bits-range f .1)
+
+pub word-parts : (x : ℕ) → x < 65536 → low x % 256 + 256 * (high x % 256) ≡ x
+word-parts x h = omega arith
+
+pub flag-bit : (b : Bool) → eqb (bit b) 1 ≡ b
+flag-bit true = refl
+flag-bit false = refl
+
+pub size-again : (z : Size) → knownSize (codeOf z) ≡ z
+unfolding sizeOf
+size-again Five = refl
+size-again Six = refl
+size-again Seven = refl
+size-again Eight = refl
+size-again Nine = refl
+
+pub parity-again : (p : Parity) → parityOf (upmOf p) ≡ p
+unfolding parityOf
+parity-again Off = refl
+parity-again Even = refl
+parity-again Odd = refl
+
+pub flag-again : (f : Flag) → flagOf (flagCode f) ≡ f
+unfolding flagOf
+flag-again Clear = refl
+flag-again Set = refl
+flag-again Armed = refl
+
+pub buffer-again : (b : Buffer) → bufferOf (not (isVacant b)) (dataIn b) ≡ b
+unfolding bufferOf
+buffer-again Vacant = refl
+buffer-again (Full d) = refl
+
+pub shifter-again : (s : Shifter) → shifterOf (not (isResting s)) (transmissionIn s) ≡ s
+unfolding shifterOf
+shifter-again Resting = refl
+shifter-again (Sending t) = refl
+
+pub sampler-again : (s : Sampler) → samplerOf (isReceiving s) (rememberedIn s) (receptionIn s) ≡ s
+unfolding samplerOf
+sampler-again (Idle last) = refl
+sampler-again (Receiving r) = refl
+
+pub places-again : (p : Places) → placesOf (heldCount p) (oldestOf p) (secondIn p) ≡ p
+unfolding placesOf
+places-again Empty = refl
+places-again (One a) = refl
+places-again (Two a b) = refl

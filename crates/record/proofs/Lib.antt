@@ -1,0 +1,7 @@
+pub mod ListLaws
+pub mod CodeLaws
+pub mod Accepting
+pub mod RangeLaws
+pub mod LiftLaws
+pub mod ByteLaws
+pub mod Round

@@ -1,0 +1,127 @@
+-- A valid device is what the bytes of its image say. Assumes nothing.
+use Prim.Native.Nat.{ℕ, _^_, _<_, _≤_}
+use mathlib.Core.Bool.{Bool, not}
+use mathlib.Core.Path.{_≡_, refl, ap, ap₂, _∙_}
+use native.Mathlib.Omega.{arith}
+use Rattle.frame.specs.Format.{dataBits, wordBits}
+use Rattle.frame.specs.declared.format.Format.{Format}
+use Rattle.usart.specs.Queue.{oldestOf}
+use Rattle.usart.specs.Valid.{ValidBuffer, ValidShifter, ValidSampler, ValidPlaces}
+use Rattle.usart.specs.declared.sender.Buffer.{Buffer}
+use Rattle.usart.specs.declared.sender.Buffer.the-variants.{Vacant, Full}
+use Rattle.usart.specs.declared.sender.Shifter.{Shifter}
+use Rattle.usart.specs.declared.sender.Shifter.the-variants.{Resting, Sending}
+use Rattle.usart.specs.declared.sampler.Reception.{Reception}
+use Rattle.usart.specs.declared.sampler.Sampler.{Sampler}
+use Rattle.usart.specs.declared.sampler.Sampler.the-variants.{Idle, Receiving}
+use Rattle.usart.specs.declared.queue.Places.{Places}
+use Rattle.usart.specs.declared.queue.Places.the-variants.{Empty, One, Two}
+use Rattle.device.specs.Valid.{Valid}
+use Rattle.device.specs.declared.unit.Device.{Device}
+use Rattle.record.specs.Parts.{dataIn, bufferOf, transmissionIn, shifterOf, receptionIn, samplerOf, secondIn, placesOf}
+use Rattle.record.specs.Layout.{imageOf}
+use Rattle.record.specs.Lift.{baudAt, formatWith, formatAt, controlAt, bufferAt, transmissionAt, shifterAt, senderWith, senderAt, receptionAt, samplerAt, oldestAt, secondAt, placesAt, queueWith, queueAt, receiverAt, usartAt, spiControlAt, transferAt, flagsAt, pinsAt, spiAt, deviceAt}
+use Rattle.record.proofs.CodeLaws.{data-limit, word-limit, word-parts, flag-bit, size-again, parity-again, flag-again, buffer-again, shifter-again, sampler-again, places-again}
+
+-- the words of valid parts
+
+pub data-lt : (f : Format) (b : Buffer) → ValidBuffer f b → dataIn b < 512
+data-lt f Vacant v = omega arith
+data-lt f (Full d) v = let l = data-limit (f .size) in let w : d < 2 ^ dataBits (f .size) = v in omega arith
+
+pub sent-lt : (f : Format) (s : Shifter) → ValidShifter f s → transmissionIn s .word < 1024
+sent-lt f Resting v = omega arith
+sent-lt f (Sending t) v = let l = word-limit f in let w : t .word < 2 ^ wordBits f = v .word in omega arith
+
+pub received-lt : (f : Format) (s : Sampler) → ValidSampler f s → receptionIn s .word < 1024
+received-lt f (Idle last) v = omega arith
+received-lt f (Receiving r) v = let l = word-limit f in let w : r .word < 2 ^ wordBits f = v .word in omega arith
+
+pub oldest-lt : (p : Places) → ValidPlaces p → oldestOf p .«data» < 512
+oldest-lt Empty v = omega arith
+oldest-lt (One a) v = v
+oldest-lt (Two a b) v = v .0
+
+pub second-lt : (p : Places) → ValidPlaces p → secondIn p .«data» < 512
+second-lt Empty v = omega arith
+second-lt (One a) v = omega arith
+second-lt (Two a b) v = v .1
+
+module _ (d : Device) (v : Valid d) where
+  baud-law : baudAt (imageOf d) ≡ d .usart .baud
+  baud-law =
+      let u : d .usart .baud .ubrr < 4096 = v .usart .baud .ubrr in
+      let l : d .usart .baud .left .0 < 4096 = v .usart .baud .left in
+      let u' : d .usart .baud .ubrr < 65536 = omega arith in
+      let l' : d .usart .baud .left .0 < 65536 = omega arith in
+      simp (word-parts)
+
+  format-law : formatAt (imageOf d) ≡ d .usart .format
+  format-law =
+      ap₂ (formatWith (imageOf d)) (size-again (d .usart .format .size)) (parity-again (d .usart .format .parity)) ∙ simp (flag-bit)
+
+  control-law : controlAt (imageOf d) ≡ d .usart .control
+  control-law = simp (flag-bit)
+
+  buffer-law : bufferAt (imageOf d) ≡ d .usart .sender .buffer
+  buffer-law =
+      let l : dataIn (d .usart .sender .buffer) < 512 = data-lt (d .usart .format) (d .usart .sender .buffer) (v .usart .sender .buffer) in
+      ap₂ bufferOf (flag-bit _) (word-parts (dataIn (d .usart .sender .buffer)) (omega arith)) ∙ buffer-again (d .usart .sender .buffer)
+
+  transmission-law : transmissionAt (imageOf d) ≡ transmissionIn (d .usart .sender .shifter)
+  transmission-law =
+      let l : transmissionIn (d .usart .sender .shifter) .word < 1024 = sent-lt (d .usart .format) (d .usart .sender .shifter) (v .usart .sender .shifter) in
+      let l' : transmissionIn (d .usart .sender .shifter) .word < 65536 = omega arith in
+      simp (word-parts)
+
+  shifter-law : shifterAt (imageOf d) ≡ d .usart .sender .shifter
+  shifter-law = ap₂ shifterOf (flag-bit _) transmission-law ∙ shifter-again (d .usart .sender .shifter)
+
+  sender-law : senderAt (imageOf d) ≡ d .usart .sender
+  sender-law = ap₂ (senderWith (imageOf d)) buffer-law shifter-law ∙ simp (flag-bit)
+
+  reception-law : receptionAt (imageOf d) ≡ receptionIn (d .usart .receiver .sampler)
+  reception-law =
+      let l : receptionIn (d .usart .receiver .sampler) .word < 1024 = received-lt (d .usart .format) (d .usart .receiver .sampler) (v .usart .receiver .sampler) in
+      let l' : receptionIn (d .usart .receiver .sampler) .word < 65536 = omega arith in
+      simp (word-parts, flag-bit)
+
+  sampler-law : samplerAt (imageOf d) ≡ d .usart .receiver .sampler
+  sampler-law =
+      ap₂ (λ (x y : Bool). samplerOf x y (receptionAt (imageOf d))) (flag-bit _) (flag-bit _)
+      ∙ ap (samplerOf _ _) reception-law
+      ∙ sampler-again (d .usart .receiver .sampler)
+
+  oldest-law : oldestAt (imageOf d) ≡ oldestOf (d .usart .receiver .queue .places)
+  oldest-law =
+      let l : oldestOf (d .usart .receiver .queue .places) .«data» < 512 = oldest-lt (d .usart .receiver .queue .places) (v .usart .receiver .places) in
+      let l' : oldestOf (d .usart .receiver .queue .places) .«data» < 65536 = omega arith in
+      simp (word-parts, flag-bit)
+
+  second-law : secondAt (imageOf d) ≡ secondIn (d .usart .receiver .queue .places)
+  second-law =
+      let l : secondIn (d .usart .receiver .queue .places) .«data» < 512 = second-lt (d .usart .receiver .queue .places) (v .usart .receiver .places) in
+      let l' : secondIn (d .usart .receiver .queue .places) .«data» < 65536 = omega arith in
+      simp (word-parts, flag-bit)
+
+  queue-law : queueAt (imageOf d) ≡ d .usart .receiver .queue
+  queue-law =
+      ap (queueWith (imageOf d)) (ap₂ (placesOf _) oldest-law second-law ∙ places-again (d .usart .receiver .queue .places)) ∙ simp (flag-bit)
+
+  usart-law : usartAt (imageOf d) ≡ d .usart
+  usart-law = rw (baud-law, format-law, control-law, sender-law, sampler-law, queue-law)
+
+  flags-law : flagsAt (imageOf d) ≡ d .spi .flags
+  flags-law = simp (flag-again)
+
+  spi-control-law : spiControlAt (imageOf d) ≡ d .spi .control
+  spi-control-law = simp (flag-bit)
+
+  pins-law : pinsAt (imageOf d) ≡ d .spi .pins
+  pins-law = simp (flag-bit)
+
+  spi-law : spiAt (imageOf d) ≡ d .spi
+  spi-law = rw (spi-control-law, flags-law, pins-law)
+
+  pub lifted : deviceAt (imageOf d) ≡ d
+  lifted = rw (usart-law, spi-law)

@@ -1,0 +1,33 @@
+use mathlib.Core.Path.{_∙_}
+use borrow.Author.Tests.{eq-eqb}
+use Rattle.choice.proofs.Picks.{picks, pick-true}
+use Rattle.record.specs.Codec.{recordOf, storedOf}
+use borrow.Author.Needs.{needs}
+use Rattle.record.proofs.codec.store.Statement.{statement}
+use Rattle.record.proofs.codec.store.Tie as tie
+use Rattle.record.proofs.codec.store.Reads as reads
+use Rattle.record.proofs.codec.store.Lts as lts
+use Rattle.record.proofs.codec.put.Reads as put-reads
+use Rattle.record.proofs.encode.image.Reads as image-reads
+
+image-requires : tie.Need-image-requires
+image-requires c κs = search needs
+
+put-requires : tie.Need-put-requires
+put-requires c κs = search needs
+
+same-length : tie.Need-same-length
+same-length c = search needs
+
+returns : tie.Need-returns
+unfolding storedOf recordOf
+returns c =
+    pick-true _ _ _ _ (eq-eqb _ _ (c .before .before .before .before .before .if1 .taken))
+    (c .before .before .put .ensures ∙ c .before .before .before .before .image .ensures)
+
+returns-2 : tie.Need-returns-2
+unfolding storedOf
+returns-2 c = search picks
+
+pub store-spec : {M : Type 1} → statement M
+store-spec = tie.close (tie.spec image-requires put-requires same-length returns returns-2)

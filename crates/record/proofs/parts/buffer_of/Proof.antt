@@ -1,0 +1,17 @@
+use Rattle.choice.proofs.Picks.{picks}
+use Rattle.record.specs.Parts.{bufferOf}
+use Rattle.record.proofs.parts.buffer_of.Statement.{statement}
+use Rattle.record.proofs.parts.buffer_of.Tie as tie
+use Rattle.record.proofs.parts.buffer_of.Reads as reads
+use Rattle.record.proofs.parts.buffer_of.Lts as lts
+
+returns : tie.Need-returns
+unfolding bufferOf
+returns c = search picks
+
+returns-2 : tie.Need-returns-2
+unfolding bufferOf
+returns-2 c = search picks
+
+pub buffer-of-spec : {M : Type 1} → statement M
+buffer-of-spec = tie.close (tie.spec returns returns-2)

@@ -1,0 +1,21 @@
+use Rattle.choice.proofs.Picks.{picks}
+use Rattle.record.specs.Parts.{placesOf}
+use Rattle.record.proofs.parts.places_of.Statement.{statement}
+use Rattle.record.proofs.parts.places_of.Tie as tie
+use Rattle.record.proofs.parts.places_of.Reads as reads
+use Rattle.record.proofs.parts.places_of.Lts as lts
+
+returns : tie.Need-returns
+unfolding placesOf
+returns c = search picks
+
+returns-2 : tie.Need-returns-2
+unfolding placesOf
+returns-2 c = search picks
+
+returns-3 : tie.Need-returns-3
+unfolding placesOf
+returns-3 c = search picks
+
+pub places-of-spec : {M : Type 1} → statement M
+places-of-spec = tie.close (tie.spec returns returns-2 returns-3)

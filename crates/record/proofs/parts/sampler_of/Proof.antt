@@ -1,0 +1,17 @@
+use Rattle.choice.proofs.Picks.{picks}
+use Rattle.record.specs.Parts.{samplerOf}
+use Rattle.record.proofs.parts.sampler_of.Statement.{statement}
+use Rattle.record.proofs.parts.sampler_of.Tie as tie
+use Rattle.record.proofs.parts.sampler_of.Reads as reads
+use Rattle.record.proofs.parts.sampler_of.Lts as lts
+
+returns : tie.Need-returns
+unfolding samplerOf
+returns c = search picks
+
+returns-2 : tie.Need-returns-2
+unfolding samplerOf
+returns-2 c = search picks
+
+pub sampler-of-spec : {M : Type 1} → statement M
+sampler-of-spec = tie.close (tie.spec returns returns-2)

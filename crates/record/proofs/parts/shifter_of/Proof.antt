@@ -1,0 +1,17 @@
+use Rattle.choice.proofs.Picks.{picks}
+use Rattle.record.specs.Parts.{shifterOf}
+use Rattle.record.proofs.parts.shifter_of.Statement.{statement}
+use Rattle.record.proofs.parts.shifter_of.Tie as tie
+use Rattle.record.proofs.parts.shifter_of.Reads as reads
+use Rattle.record.proofs.parts.shifter_of.Lts as lts
+
+returns : tie.Need-returns
+unfolding shifterOf
+returns c = search picks
+
+returns-2 : tie.Need-returns-2
+unfolding shifterOf
+returns-2 c = search picks
+
+pub shifter-of-spec : {M : Type 1} → statement M
+shifter-of-spec = tie.close (tie.spec returns returns-2)

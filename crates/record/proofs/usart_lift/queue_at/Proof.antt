@@ -1,0 +1,21 @@
+use mathlib.Core.Path.{ap, _∙_}
+use Rattle.record.specs.Lift.{queueWith}
+use borrow.Author.Needs.{needs}
+use Rattle.record.proofs.usart_lift.queue_at.Statement.{statement}
+use Rattle.record.proofs.usart_lift.queue_at.Tie as tie
+use Rattle.record.proofs.usart_lift.queue_at.Reads as reads
+use Rattle.record.proofs.usart_lift.queue_at.Lts as lts
+use Rattle.record.proofs.usart_lift.places_at.Reads as places-at-reads
+use Rattle.record.proofs.usart_lift.queue_with.Reads as queue-with-reads
+
+places-at-requires : tie.Need-places-at-requires
+places-at-requires c κs = search needs
+
+queue-with-requires : tie.Need-queue-with-requires
+queue-with-requires c κs = search needs
+
+returns : tie.Need-returns
+returns c = c .queue-with .ensures ∙ ap (queueWith (c .before .before .args .b)) (c .before .places-at .ensures)
+
+pub queue-at-spec : {M : Type 1} → statement M
+queue-at-spec = tie.close (tie.spec places-at-requires queue-with-requires returns)

@@ -1,0 +1,28 @@
+use mathlib.Core.Path.{ap₂, _∙_}
+use Rattle.record.specs.Lift.{senderWith}
+use borrow.Author.Needs.{needs}
+use Rattle.record.proofs.usart_lift.sender_at.Statement.{statement}
+use Rattle.record.proofs.usart_lift.sender_at.Tie as tie
+use Rattle.record.proofs.usart_lift.sender_at.Reads as reads
+use Rattle.record.proofs.usart_lift.sender_at.Lts as lts
+use Rattle.record.proofs.usart_lift.buffer_at.Reads as buffer-at-reads
+use Rattle.record.proofs.usart_lift.sender_with.Reads as sender-with-reads
+use Rattle.record.proofs.usart_lift.shifter_at.Reads as shifter-at-reads
+
+buffer-at-requires : tie.Need-buffer-at-requires
+buffer-at-requires c κs = search needs
+
+shifter-at-requires : tie.Need-shifter-at-requires
+shifter-at-requires c κs = search needs
+
+sender-with-requires : tie.Need-sender-with-requires
+sender-with-requires c κs = search needs
+
+returns : tie.Need-returns
+returns c =
+    c .sender-with .ensures
+    ∙ ap₂ (senderWith (c .before .before .before .args .b)) (c .before .before .buffer-at .ensures) (c .before .shifter-at .ensures)
+
+pub sender-at-spec : {M : Type 1} → statement M
+sender-at-spec =
+    tie.close (tie.spec buffer-at-requires shifter-at-requires sender-with-requires returns)

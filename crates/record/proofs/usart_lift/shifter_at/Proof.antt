@@ -1,0 +1,26 @@
+use mathlib.Core.Path.{ap, _∙_}
+use Rattle.record.specs.Lift.{setAt}
+use Rattle.record.specs.Parts.{shifterOf}
+use borrow.Author.Needs.{needs}
+use Rattle.record.proofs.usart_lift.shifter_at.Statement.{statement}
+use Rattle.record.proofs.usart_lift.shifter_at.Tie as tie
+use Rattle.record.proofs.usart_lift.shifter_at.Reads as reads
+use Rattle.record.proofs.usart_lift.shifter_at.Lts as lts
+use Rattle.record.proofs.parts.shifter_of.Reads as shifter-of-reads
+use Rattle.record.proofs.usart_lift.transmission_at.Reads as transmission-at-reads
+
+array-read-shifter-of : tie.Need-array-read-shifter-of
+array-read-shifter-of c = search needs
+
+transmission-at-requires : tie.Need-transmission-at-requires
+transmission-at-requires c κs = search needs
+
+shifter-of-requires : tie.Need-shifter-of-requires
+shifter-of-requires c κs = search needs
+
+returns : tie.Need-returns
+returns c = c .shifter-of .ensures ∙ ap (shifterOf (setAt (c .before .before .args .t1) 18)) (c .before .transmission-at .ensures)
+
+pub shifter-at-spec : {M : Type 1} → statement M
+shifter-at-spec =
+    tie.close (tie.spec array-read-shifter-of transmission-at-requires shifter-of-requires returns)

@@ -1,0 +1,13 @@
+// The 64 bytes that the rig keeps: the image of a device, and back. It knows nothing of what a register does.
+mod codec;
+mod codes;
+mod encode;
+mod parts;
+mod spi_lift;
+mod spi_ranges;
+mod usart_lift;
+mod usart_ranges;
+
+pub use codec::Decoded;
+pub use codec::decode;
+pub use codec::store;

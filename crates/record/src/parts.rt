@@ -1,0 +1,176 @@
+use usart::Buffer;
+use usart::Frame;
+use usart::Places;
+use usart::Receiver;
+use usart::Reception;
+use usart::Sample;
+use usart::Sampler;
+use usart::Sender;
+use usart::Shifter;
+use usart::Transmission;
+ghost use mathlib.Core.Path.{_≡_};
+ghost use Rattle.record.specs.Parts.{dataIn, bufferOf, transmissionIn, shifterOf, rememberedIn, receptionIn, samplerOf, heldCount, secondIn, placesOf, senderParts, receiverParts};
+
+// What the bytes hold of a sender, but TXC.
+pub struct SenderParts {
+    pub full: bool,
+    pub data: u16,
+    pub sending: bool,
+    pub transmission: Transmission,
+}
+
+// What the bytes hold of a receiver, but a frame lost.
+pub struct ReceiverParts {
+    pub receiving: bool,
+    pub last: bool,
+    pub reception: Reception,
+    pub held: u8,
+    pub oldest: Frame,
+    pub second: Frame,
+}
+
+fn data(b: Buffer) -> u16
+    ensures { λ r. ⌜ r ≡ dataIn b ⌝ }
+{
+    match b {
+        Buffer::Vacant => 0,
+        Buffer::Full(d) => d,
+    }
+}
+
+pub fn buffer_of(full: bool, data: u16) -> Buffer
+    ensures { λ r. ⌜ r ≡ bufferOf full «data» ⌝ }
+{
+    if full {
+        return Buffer::Full(data);
+    }
+    Buffer::Vacant
+}
+
+fn transmission(s: Shifter) -> Transmission
+    ensures { λ r. ⌜ r ≡ transmissionIn s ⌝ }
+{
+    match s {
+        Shifter::Resting => Transmission {
+            word: 0,
+            bit: 0,
+            sample: Sample(0),
+        },
+        Shifter::Sending(t) => t,
+    }
+}
+
+pub fn shifter_of(sending: bool, t: Transmission) -> Shifter
+    ensures { λ r. ⌜ r ≡ shifterOf sending t ⌝ }
+{
+    if sending {
+        return Shifter::Sending(t);
+    }
+    Shifter::Resting
+}
+
+pub fn sender_parts(s: Sender) -> SenderParts
+    ensures { λ r. ⌜ r ≡ senderParts s ⌝ }
+{
+    let b = s.buffer;
+    let h = s.shifter;
+    let vacant = s.vacant();
+    let resting = s.resting();
+    let d = data(b);
+    let t = transmission(h);
+    SenderParts {
+        full: !vacant,
+        data: d,
+        sending: !resting,
+        transmission: t,
+    }
+}
+
+// The last sample; 0 while a frame is being received.
+fn remembered(s: Sampler) -> bool
+    ensures { λ r. ⌜ r ≡ rememberedIn s ⌝ }
+{
+    match s {
+        Sampler::Idle(last) => last,
+        Sampler::Receiving(_) => false,
+    }
+}
+
+fn reception(s: Sampler) -> Reception
+    ensures { λ r. ⌜ r ≡ receptionIn s ⌝ }
+{
+    match s {
+        Sampler::Idle(_) => Reception {
+            bit: 0,
+            sample: Sample(0),
+            first: false,
+            second: false,
+            word: 0,
+        },
+        Sampler::Receiving(r) => r,
+    }
+}
+
+pub fn sampler_of(receiving: bool, last: bool, r: Reception) -> Sampler
+    ensures { λ s. ⌜ s ≡ samplerOf receiving last r ⌝ }
+{
+    if receiving {
+        return Sampler::Receiving(r);
+    }
+    Sampler::Idle(last)
+}
+
+fn held(p: Places) -> u8
+    ensures { λ r. ⌜ r ≡ heldCount p ⌝ }
+{
+    match p {
+        Places::Empty => 0,
+        Places::One(_) => 1,
+        Places::Two(_, _) => 2,
+    }
+}
+
+fn second(p: Places) -> Frame
+    ensures { λ r. ⌜ r ≡ secondIn p ⌝ }
+{
+    let none = Frame {
+        data: 0,
+        fe: false,
+        upe: false,
+        dor: false,
+    };
+    match p {
+        Places::Empty => none,
+        Places::One(_) => none,
+        Places::Two(_, b) => b,
+    }
+}
+
+// A count above 2 gives any places, which the comparison with the record's bytes refuses.
+pub fn places_of(held: u8, a: Frame, b: Frame) -> Places
+    ensures { λ r. ⌜ r ≡ placesOf held a b ⌝ }
+{
+    if held == 0 {
+        return Places::Empty;
+    }
+    if held == 1 {
+        return Places::One(a);
+    }
+    Places::Two(a, b)
+}
+
+pub fn receiver_parts(r: Receiver) -> ReceiverParts
+    ensures { λ p. ⌜ p ≡ receiverParts r ⌝ }
+{
+    let s = r.sampler;
+    let q = r.queue;
+    let p = q.places;
+    ReceiverParts {
+        receiving: s.receiving(),
+        last: remembered(s),
+        reception: reception(s),
+        held: held(p),
+        oldest: q.oldest(),
+        second: second(p),
+    }
+}

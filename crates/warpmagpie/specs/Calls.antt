@@ -1,0 +1,111 @@
+-- The calls of the rig on a record: what each answers, and every byte of record, value and outputs after it.
+use Prim.Native.Nat.{ℕ}
+use mathlib.Core.List.{List, []}
+use lib.Dec.{eqb}
+use lib.ListN.{length}
+use Rattle.choice.specs.Pick.{pick}
+use Rattle.device.specs.Answer.{numberOf, answerOf, readAnswerOf, valueOf}
+use Rattle.device.specs.Unit.{resetDevice, requestsOf}
+use Rattle.device.specs.Register.{writeOf, readOf, vectorOf}
+use Rattle.device.specs.Run.{ranOf, outputsOf, areLevels}
+use Rattle.device.specs.declared.answer.Refusal.the-variants.{Record, Length, Level}
+use Rattle.device.specs.declared.answer.Written.{Written}
+use Rattle.device.specs.declared.answer.Written.the-variants.{Done, Refused}
+use Rattle.device.specs.declared.answer.Reading.{Reading}
+use Rattle.device.specs.declared.answer.Reading.the-variants.{Done as Value, Refused as NoValue}
+use Rattle.record.specs.Codec.{decodeOf, recordOf}
+use Rattle.record.specs.declared.codec.Decoded.{Decoded}
+use Rattle.record.specs.declared.codec.Decoded.the-variants.{Accepted, Refused as NoDevice}
+
+-- every refusal leaves the record untouched
+abbrev pub kept : List ℕ → Written → List ℕ
+kept s (Done d) = recordOf d
+kept s (Refused r) = s
+
+-- .. and the output slice
+abbrev pub shown : List ℕ → List ℕ → Written → List ℕ
+shown os new (Done d) = new
+shown os new (Refused r) = os
+
+-- reset ignores the old bytes and refuses only a wrong length
+unfoldable pub resetOn : List ℕ → Written
+resetOn s = pick (eqb (length s) 64) (Done resetDevice) (Refused Record)
+
+abbrev pub resetAnswer : List ℕ → ℕ
+resetAnswer s = answerOf (resetOn s)
+
+abbrev pub recordAfterReset : List ℕ → List ℕ
+recordAfterReset s = kept s (resetOn s)
+
+-- a write of a register: 5 goes before the device's own refusals
+unfoldable pub writeOn : Decoded → ℕ → ℕ → Written
+writeOn (Accepted d) a v = writeOf d a v
+writeOn NoDevice a v = Refused Record
+
+abbrev pub writeAnswer : List ℕ → ℕ → ℕ → ℕ
+writeAnswer s a v = answerOf (writeOn (decodeOf s) a v)
+
+abbrev pub recordAfterWrite : List ℕ → ℕ → ℕ → List ℕ
+recordAfterWrite s a v = kept s (writeOn (decodeOf s) a v)
+
+-- a read of a register: a refused one answers 0
+unfoldable pub readOn : Decoded → ℕ → Reading
+readOn (Accepted d) a = readOf d a
+readOn NoDevice a = NoValue Record
+
+abbrev pub keptByRead : List ℕ → Reading → List ℕ
+keptByRead s (Value v d) = recordOf d
+keptByRead s (NoValue r) = s
+
+abbrev pub readAnswer : List ℕ → ℕ → ℕ
+readAnswer s a = readAnswerOf (readOn (decodeOf s) a)
+
+abbrev pub readValue : List ℕ → ℕ → ℕ
+readValue s a = valueOf (readOn (decodeOf s) a)
+
+abbrev pub recordAfterRead : List ℕ → ℕ → List ℕ
+recordAfterRead s a = keptByRead s (readOn (decodeOf s) a)
+
+-- a vector taken: 5, 1, 8
+unfoldable pub vectorOn : Decoded → ℕ → Written
+vectorOn (Accepted d) n = vectorOf d n
+vectorOn NoDevice n = Refused Record
+
+abbrev pub vectorAnswer : List ℕ → ℕ → ℕ
+vectorAnswer s n = answerOf (vectorOn (decodeOf s) n)
+
+abbrev pub recordAfterVector : List ℕ → ℕ → List ℕ
+recordAfterVector s n = kept s (vectorOn (decodeOf s) n)
+
+-- a run of clocks: 5, then 6 for the lengths, then 7 for the levels
+unfoldable pub runOn : Decoded → List ℕ → List ℕ → Written
+runOn (Accepted d) ls os = pick (eqb (length os) (length ls)) (pick (areLevels ls) (Done (ranOf d ls)) (Refused Level)) (Refused Length)
+runOn NoDevice ls os = Refused Record
+
+unfoldable pub outputsOn : Decoded → List ℕ → List ℕ
+outputsOn (Accepted d) ls = outputsOf d ls
+outputsOn NoDevice ls = []
+
+abbrev pub runAnswer : List ℕ → List ℕ → List ℕ → ℕ
+runAnswer s ls os = answerOf (runOn (decodeOf s) ls os)
+
+abbrev pub recordAfterRun : List ℕ → List ℕ → List ℕ → List ℕ
+recordAfterRun s ls os = kept s (runOn (decodeOf s) ls os)
+
+abbrev pub outputsAfterRun : List ℕ → List ℕ → List ℕ → List ℕ
+outputsAfterRun s ls os = shown os (outputsOn (decodeOf s) ls) (runOn (decodeOf s) ls os)
+
+-- a report of the requests: a refused one answers 0
+unfoldable pub requestsAnswerOn : Decoded → ℕ
+requestsAnswerOn (Accepted d) = 0
+requestsAnswerOn NoDevice = numberOf Record
+
+abbrev pub requestsAnswer : List ℕ → ℕ
+requestsAnswer s = requestsAnswerOn (decodeOf s)
+
+unfoldable pub requestsValueOn : Decoded → ℕ
+requestsValueOn (Accepted d) = requestsOf d
+requestsValueOn NoDevice = 0
+
+abbrev pub requestsValue : List ℕ → ℕ
+requestsValue s = requestsValueOn (decodeOf s)

@@ -1,0 +1,16 @@
+-- What is put back over a record's bytes: on a record of 64 bytes it is what `kept` says.
+use Prim.Native.Nat.{ℕ}
+use mathlib.Core.List.{List}
+use Rattle.device.specs.declared.answer.Written.{Written}
+use Rattle.device.specs.declared.answer.Written.the-variants.{Done, Refused}
+use Rattle.device.specs.declared.answer.Reading.{Reading}
+use Rattle.device.specs.declared.answer.Reading.the-variants.{Done as Value, Refused as NoValue}
+use Rattle.record.specs.Codec.{storedOf}
+
+abbrev pub putBack : Written → List ℕ → List ℕ
+putBack (Done d) s = storedOf d s
+putBack (Refused r) s = s
+
+abbrev pub putBackRead : Reading → List ℕ → List ℕ
+putBackRead (Value v d) s = storedOf d s
+putBackRead (NoValue r) s = s

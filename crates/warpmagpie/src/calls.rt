@@ -1,0 +1,122 @@
+use device::Device;
+use device::Reading;
+use device::Refusal;
+use device::Written;
+use record::Decoded;
+ghost use mathlib.Core.Path.{_≡_};
+ghost use Rattle.device.specs.Answer.{numberOf, answerOf, readAnswerOf, valueOf};
+ghost use Rattle.warpmagpie.specs.Calls.{resetAnswer, recordAfterReset, writeAnswer, recordAfterWrite, readAnswer, readValue, recordAfterRead, vectorAnswer, recordAfterVector, requestsAnswer, requestsValue};
+ghost use Rattle.warpmagpie.specs.PutBack.{putBack, putBackRead};
+
+// Puts back what a write or a vector came to; a refusal leaves the record as it is.
+fn settle(w: Written, image: &mut [u8]) -> u8
+    ensures { λ r. ⌜ r ≡ answerOf w ⌝ }
+    ensures { λ _. ⌜ now (image .exit) ≡ putBack w (now (image .entry)) ⌝ }
+{
+    match w {
+        Written::Done(d) => {
+            record::store(d, image);
+            0
+        }
+        Written::Refused(r) => r.number(),
+    }
+}
+
+// Puts back what a read came to.
+fn settle_read(g: Reading, image: &mut [u8], value: &mut u8) -> u8
+    ensures { λ r. ⌜ r ≡ readAnswerOf g ⌝ }
+    ensures { λ _. ⌜ now (value .exit) ≡ valueOf g ⌝ }
+    ensures { λ _. ⌜ now (image .exit) ≡ putBackRead g (now (image .entry)) ⌝ }
+{
+    match g {
+        Reading::Done(v, d) => {
+            record::store(d, image);
+            *value = v;
+            0
+        }
+        Reading::Refused(r) => {
+            *value = 0;
+            r.number()
+        }
+    }
+}
+
+// Resets the device: whatever bytes the record had, it is then the record of a device after reset.
+#[no_mangle]
+pub extern "C" fn warpmagpie_reset(image: &mut [u8]) -> u8
+    ensures { λ r. ⌜ r ≡ resetAnswer (now (image .entry)) ⌝ }
+    ensures { λ _. ⌜ now (image .exit) ≡ recordAfterReset (now (image .entry)) ⌝ }
+{
+    if image.len() != 64 {
+        let r = Refusal::Record;
+        return r.number();
+    }
+    record::store(Device::reset(), image);
+    0
+}
+
+#[no_mangle]
+pub extern "C" fn warpmagpie_write(image: &mut [u8], address: u16, value: u8) -> u8
+    ensures { λ r. ⌜ r ≡ writeAnswer (now (image .entry)) address value ⌝ }
+    ensures { λ _. ⌜ now (image .exit) ≡ recordAfterWrite (now (image .entry)) address value ⌝ }
+{
+    let got = record::decode(image);
+    match got {
+        Decoded::Accepted(d) => settle(d.write(address, value), image),
+        Decoded::Refused => {
+            let r = Refusal::Record;
+            r.number()
+        }
+    }
+}
+
+#[no_mangle]
+pub extern "C" fn warpmagpie_read(image: &mut [u8], address: u16, value: &mut u8) -> u8
+    ensures { λ r. ⌜ r ≡ readAnswer (now (image .entry)) address ⌝ }
+    ensures { λ _. ⌜ now (value .exit) ≡ readValue (now (image .entry)) address ⌝ }
+    ensures { λ _. ⌜ now (image .exit) ≡ recordAfterRead (now (image .entry)) address ⌝ }
+{
+    let got = record::decode(image);
+    match got {
+        Decoded::Accepted(d) => settle_read(d.read(address), image, value),
+        Decoded::Refused => {
+            let r = Refusal::Record;
+            *value = 0;
+            r.number()
+        }
+    }
+}
+
+#[no_mangle]
+pub extern "C" fn warpmagpie_take_vector(image: &mut [u8], vector: u8) -> u8
+    ensures { λ r. ⌜ r ≡ vectorAnswer (now (image .entry)) vector ⌝ }
+    ensures { λ _. ⌜ now (image .exit) ≡ recordAfterVector (now (image .entry)) vector ⌝ }
+{
+    let got = record::decode(image);
+    match got {
+        Decoded::Accepted(d) => settle(d.take_vector(vector), image),
+        Decoded::Refused => {
+            let r = Refusal::Record;
+            r.number()
+        }
+    }
+}
+
+#[no_mangle]
+pub extern "C" fn warpmagpie_requests(image: &[u8], requests: &mut u8) -> u8
+    ensures { λ r. ⌜ r ≡ requestsAnswer (now (image .entry)) ⌝ }
+    ensures { λ _. ⌜ now (requests .exit) ≡ requestsValue (now (image .entry)) ⌝ }
+{
+    let got = record::decode(image);
+    match got {
+        Decoded::Accepted(d) => {
+            *requests = d.requests();
+            0
+        }
+        Decoded::Refused => {
+            let r = Refusal::Record;
+            *requests = 0;
+            r.number()
+        }
+    }
+}

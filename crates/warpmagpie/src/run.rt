@@ -1,0 +1,68 @@
+use device::Device;
+use device::Refusal;
+use record::Decoded;
+ghost use mathlib.Core.Path.{_≡_};
+ghost use lib.ListN.{length};
+ghost use Rattle.device.specs.Run.{ranOf, outputsOf, areLevels};
+ghost use Rattle.warpmagpie.specs.Calls.{runAnswer, recordAfterRun, outputsAfterRun};
+
+// Whether no level byte has bit 5, 6 or 7 set.
+fn are_levels(levels: &[u8]) -> bool
+    ensures { λ r. ⌜ r ≡ areLevels (now (levels .entry)) ⌝ }
+{
+    let mut i = 0;
+    while i < levels.len() {
+        if 31 < levels[i] {
+            return false;
+        }
+        i += 1;
+    }
+    true
+}
+
+// One clock for each level byte, with an output byte for each.
+fn clocks(d: Device, levels: &[u8], outputs: &mut [u8]) -> Device
+    requires { ⌜ length (now outputs) ≡ length (now levels) ⌝ }
+    ensures { λ r. ⌜ r ≡ ranOf d (now (levels .entry)) ⌝ }
+    ensures { λ _. ⌜ now (outputs .exit) ≡ outputsOf d (now (levels .entry)) ⌝ }
+{
+    let mut state = d;
+    let mut i = 0;
+    while i < levels.len() {
+        let c = state.clock(levels[i]);
+        outputs[i] = c.output;
+        state = c.device;
+        i += 1;
+    }
+    state
+}
+
+// The level bytes are all checked before any clock passes.
+#[no_mangle]
+pub extern "C" fn warpmagpie_run(image: &mut [u8], levels: &[u8], outputs: &mut [u8]) -> u8
+    ensures { λ r. ⌜ r ≡ runAnswer (now (image .entry)) (now (levels .entry)) (now (outputs .entry)) ⌝ }
+    ensures { λ _. ⌜ now (image .exit) ≡ recordAfterRun (now (image .entry)) (now (levels .entry)) (now (outputs .entry)) ⌝ }
+    ensures { λ _. ⌜ now (outputs .exit) ≡ outputsAfterRun (now (image .entry)) (now (levels .entry)) (now (outputs .entry)) ⌝ }
+{
+    let got = record::decode(image);
+    match got {
+        Decoded::Accepted(d) => {
+            if outputs.len() != levels.len() {
+                let r = Refusal::Length;
+                return r.number();
+            }
+            if are_levels(levels) {
+                let next = clocks(d, levels, outputs);
+                record::store(next, image);
+                0
+            } else {
+                let r = Refusal::Level;
+                r.number()
+            }
+        }
+        Decoded::Refused => {
+            let r = Refusal::Record;
+            r.number()
+        }
+    }
+}
