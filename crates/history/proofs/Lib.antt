@@ -5,3 +5,5 @@ pub mod ReceivingLine
 pub mod SendingLine
 pub mod Independence
 pub mod MarkedCases
+pub mod Witness
+pub mod Reached

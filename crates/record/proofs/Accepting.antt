@@ -3,11 +3,11 @@
 use Prim.Native.Nat.{ℕ}
 use mathlib.Core.Bool.{Bool, true, false, _&&_}
 use mathlib.Core.List.{List}
-use mathlib.Core.Path.{_≡_, refl, sym, ap, ap₂, _∙_}
+use mathlib.Core.Path.{_≡_, refl, sym, ap, _∙_}
 use native.Mathlib.Omega.{arith}
 use lib.Dec.{eqb}
 use lib.ListN.{length}
-use borrow.Author.Tests.{eqb-true, eq-eqb, ne-eqb}
+use borrow.Author.Tests.{eq-eqb, ne-eqb}
 use Rattle.choice.specs.Pick.{pick}
 use Rattle.choice.proofs.Picks.{pick-true, pick-false}
 use Rattle.device.specs.declared.unit.Device.{Device}
@@ -25,7 +25,8 @@ module _ (of : List ℕ → Device) (bytes : Device → List ℕ) (ok : Device �
   decoded s = pick (eqb (length s) 64) (pick (eqList (bytes (of s)) s && ok (of s)) (Accepted (of s)) Refused) Refused
 
   -- the test of the code, from what its calls answer
-  pub tests : (s b e : List ℕ) (d : Device) (q v r : Bool) → b ≡ s → d ≡ of b → e ≡ bytes d → q ≡ eqList e b → v ≡ ok d → q && v ≡ r → eqList (bytes (of s)) s && ok (of s) ≡ r
+  pub tests : (s b e : List ℕ) (d : Device) (q v r : Bool) → b ≡ s → d ≡ of b → e ≡ bytes d → q ≡ eqList e b → v ≡ ok d → q && v ≡ r →
+      eqList (bytes (of s)) s && ok (of s) ≡ r
   tests s b e d q v r hb hd he hq hv h = cc
 
   pub accepted : (s : List ℕ) (d : Device) → length s ≡ 64 → d ≡ of s → eqList (bytes (of s)) s && ok (of s) ≡ true → Accepted d ≡ decoded s

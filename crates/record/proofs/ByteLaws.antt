@@ -1,11 +1,10 @@
 -- Each byte of a valid device's image is below its limit. Assumes nothing.
-use Prim.Native.Nat.{ℕ, zero, suc, _+_, _^_, _<_, _≤_}
+use Prim.Native.Nat.{ℕ, zero, suc, _+_, _<_, _≤_}
 use mathlib.Core.Bool.{Bool, true, false}
 use mathlib.Core.List.{List, [], _∷_}
-use mathlib.Core.Path.{_≡_}
 use native.Mathlib.Omega.{arith}
 use lib.ListN.{length, getD}
-use Rattle.frame.specs.Format.{samples, wordBits, stopBits, lastBit}
+use Rattle.frame.specs.Format.{samples, wordBits, stopBits}
 use Rattle.frame.specs.declared.format.Size.{Size}
 use Rattle.frame.specs.declared.format.Size.the-variants.{Five, Six, Seven, Eight, Nine}
 use Rattle.frame.specs.declared.format.Parity.{Parity}

@@ -1,7 +1,7 @@
 -- A valid device is what the bytes of its image say. Assumes nothing.
-use Prim.Native.Nat.{ℕ, _^_, _<_, _≤_}
-use mathlib.Core.Bool.{Bool, not}
-use mathlib.Core.Path.{_≡_, refl, ap, ap₂, _∙_}
+use Prim.Native.Nat.{_^_, _<_}
+use mathlib.Core.Bool.{Bool}
+use mathlib.Core.Path.{_≡_, ap, ap₂, _∙_}
 use native.Mathlib.Omega.{arith}
 use Rattle.frame.specs.Format.{dataBits, wordBits}
 use Rattle.frame.specs.declared.format.Format.{Format}
@@ -11,7 +11,6 @@ use Rattle.usart.specs.declared.sender.Buffer.{Buffer}
 use Rattle.usart.specs.declared.sender.Buffer.the-variants.{Vacant, Full}
 use Rattle.usart.specs.declared.sender.Shifter.{Shifter}
 use Rattle.usart.specs.declared.sender.Shifter.the-variants.{Resting, Sending}
-use Rattle.usart.specs.declared.sampler.Reception.{Reception}
 use Rattle.usart.specs.declared.sampler.Sampler.{Sampler}
 use Rattle.usart.specs.declared.sampler.Sampler.the-variants.{Idle, Receiving}
 use Rattle.usart.specs.declared.queue.Places.{Places}
@@ -20,7 +19,7 @@ use Rattle.device.specs.Valid.{Valid}
 use Rattle.device.specs.declared.unit.Device.{Device}
 use Rattle.record.specs.Parts.{dataIn, bufferOf, transmissionIn, shifterOf, receptionIn, samplerOf, secondIn, placesOf}
 use Rattle.record.specs.Layout.{imageOf}
-use Rattle.record.specs.Lift.{baudAt, formatWith, formatAt, controlAt, bufferAt, transmissionAt, shifterAt, senderWith, senderAt, receptionAt, samplerAt, oldestAt, secondAt, placesAt, queueWith, queueAt, receiverAt, usartAt, spiControlAt, transferAt, flagsAt, pinsAt, spiAt, deviceAt}
+use Rattle.record.specs.Lift.{baudAt, formatWith, formatAt, controlAt, bufferAt, transmissionAt, shifterAt, senderWith, senderAt, receptionAt, samplerAt, oldestAt, secondAt, queueWith, queueAt, usartAt, spiControlAt, flagsAt, pinsAt, spiAt, deviceAt}
 use Rattle.record.proofs.CodeLaws.{data-limit, word-limit, word-parts, flag-bit, size-again, parity-again, flag-again, buffer-again, shifter-again, sampler-again, places-again}
 
 -- the words of valid parts
@@ -70,7 +69,8 @@ module _ (d : Device) (v : Valid d) where
 
   transmission-law : transmissionAt (imageOf d) ≡ transmissionIn (d .usart .sender .shifter)
   transmission-law =
-      let l : transmissionIn (d .usart .sender .shifter) .word < 1024 = sent-lt (d .usart .format) (d .usart .sender .shifter) (v .usart .sender .shifter) in
+      let l : transmissionIn (d .usart .sender .shifter) .word < 1024 =
+      sent-lt (d .usart .format) (d .usart .sender .shifter) (v .usart .sender .shifter) in
       let l' : transmissionIn (d .usart .sender .shifter) .word < 65536 = omega arith in
       simp (word-parts)
 
@@ -82,7 +82,8 @@ module _ (d : Device) (v : Valid d) where
 
   reception-law : receptionAt (imageOf d) ≡ receptionIn (d .usart .receiver .sampler)
   reception-law =
-      let l : receptionIn (d .usart .receiver .sampler) .word < 1024 = received-lt (d .usart .format) (d .usart .receiver .sampler) (v .usart .receiver .sampler) in
+      let l : receptionIn (d .usart .receiver .sampler) .word < 1024 =
+      received-lt (d .usart .format) (d .usart .receiver .sampler) (v .usart .receiver .sampler) in
       let l' : receptionIn (d .usart .receiver .sampler) .word < 65536 = omega arith in
       simp (word-parts, flag-bit)
 
@@ -94,13 +95,15 @@ module _ (d : Device) (v : Valid d) where
 
   oldest-law : oldestAt (imageOf d) ≡ oldestOf (d .usart .receiver .queue .places)
   oldest-law =
-      let l : oldestOf (d .usart .receiver .queue .places) .«data» < 512 = oldest-lt (d .usart .receiver .queue .places) (v .usart .receiver .places) in
+      let l : oldestOf (d .usart .receiver .queue .places) .«data» < 512 =
+      oldest-lt (d .usart .receiver .queue .places) (v .usart .receiver .places) in
       let l' : oldestOf (d .usart .receiver .queue .places) .«data» < 65536 = omega arith in
       simp (word-parts, flag-bit)
 
   second-law : secondAt (imageOf d) ≡ secondIn (d .usart .receiver .queue .places)
   second-law =
-      let l : secondIn (d .usart .receiver .queue .places) .«data» < 512 = second-lt (d .usart .receiver .queue .places) (v .usart .receiver .places) in
+      let l : secondIn (d .usart .receiver .queue .places) .«data» < 512 =
+      second-lt (d .usart .receiver .queue .places) (v .usart .receiver .places) in
       let l' : secondIn (d .usart .receiver .queue .places) .«data» < 65536 = omega arith in
       simp (word-parts, flag-bit)
 

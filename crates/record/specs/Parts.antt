@@ -1,6 +1,6 @@
 -- What the bytes hold of the parts that have cases: all 0 where a part is not in use, and the part again from them.
 use Prim.Native.Nat.{ℕ}
-use mathlib.Core.Bool.{Bool, true, false, not}
+use mathlib.Core.Bool.{Bool, false, not}
 use lib.Dec.{eqb}
 use Rattle.choice.specs.Pick.{pick}
 use Rattle.usart.specs.Sender.{isVacant, isResting}

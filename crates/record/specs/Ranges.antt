@@ -1,10 +1,10 @@
--- Whether a device's fields are in their ranges, as tests, part by part: what `Valid` of the device says (proofs/RangeLaws.antt). A number
--- of a byte is below 256 by its type; it is tested too, so that this holds of any numbers.
+-- Whether a device's fields are in their ranges, as tests, part by part: what `Valid` of the device says (proofs/RangeLaws.antt). That a
+-- field of a byte is below 256 the code has from its type; it is a test here, where fields are numbers.
 use Prim.Native.Nat.{ℕ, _+_, _^_}
 use mathlib.Core.Bool.{Bool, true, false, not, _&&_}
 use lib.Dec.{eqb, ltb, leb}
 use Rattle.choice.specs.Pick.{pick}
-use Rattle.frame.specs.Format.{samples, dataBits, wordBits, lastBit}
+use Rattle.frame.specs.Format.{samples, firstVote, dataBits, wordBits, lastBit}
 use Rattle.frame.specs.declared.format.Format.{Format}
 use Rattle.usart.specs.Queue.{isEmpty}
 use Rattle.usart.specs.declared.baud.Baud.{Baud}
@@ -27,8 +27,8 @@ use Rattle.spi.specs.declared.transfer.Transfer.{Transfer}
 use Rattle.spi.specs.declared.unit.Spi.{Spi}
 use Rattle.device.specs.declared.unit.Device.{Device}
 
-abbrev pub baudIn : Baud → Bool
-baudIn b = ltb (b .ubrr) 4096 && ltb (b .left .0) 4096
+abbrev pub baudFits : Baud → Bool
+baudFits b = ltb (b .ubrr) 4096 && ltb (b .left .0) 4096
 
 abbrev pub bufferBelow : Buffer → ℕ → Bool
 bufferBelow Vacant n = true
@@ -38,32 +38,39 @@ bufferBelow (Full d) n = ltb d n
 abbrev pub withinFrame : ℕ → ℕ → ℕ → ℕ → ℕ → ℕ → Bool
 withinFrame word bit sample limit last n = ltb word limit && leb bit last && ltb sample n
 
-abbrev pub transmissionIn : Format → Transmission → Bool
-transmissionIn f t = withinFrame (t .word) (t .bit) (t .sample .0) (2 ^ wordBits f) (lastBit f) (samples f)
+abbrev pub transmissionFits : Format → Transmission → Bool
+transmissionFits f t = withinFrame (t .word) (t .bit) (t .sample .0) (2 ^ wordBits f) (lastBit f) (samples f)
 
-abbrev pub shifterIn : Format → Shifter → Bool
-shifterIn f Resting = true
-shifterIn f (Sending t) = transmissionIn f t
+abbrev pub shifterFits : Format → Shifter → Bool
+shifterFits f Resting = true
+shifterFits f (Sending t) = transmissionFits f t
 
-abbrev pub senderIn : Format → Sender → Bool
-senderIn f s = bufferBelow (s .buffer) (2 ^ dataBits (f .size)) && shifterIn f (s .shifter)
+abbrev pub senderFits : Format → Sender → Bool
+senderFits f s = bufferBelow (s .buffer) (2 ^ dataBits (f .size)) && shifterFits f (s .shifter)
 
 -- up to the first stop bit
-abbrev pub receptionIn : Format → Reception → Bool
-receptionIn f r = withinFrame (r .word) (r .bit) (r .sample .0) (2 ^ wordBits f) (wordBits f + 1) (samples f)
+abbrev pub receptionWithin : Format → Reception → Bool
+receptionWithin f r = withinFrame (r .word) (r .bit) (r .sample .0) (2 ^ wordBits f) (wordBits f + 1) (samples f)
 
-abbrev pub samplerIn : Format → Sampler → Bool
-samplerIn f (Idle last) = true
-samplerIn f (Receiving r) = receptionIn f r
+-- the start bit has its first sample, and the stop bit not yet its last vote
+unfoldable pub isUndecided : Format → Reception → Bool
+isUndecided f r = pick (eqb (r .bit) 0) (leb 1 (r .sample .0)) (pick (eqb (r .bit) (wordBits f + 1)) (leb (r .sample .0) (firstVote f + 1)) true)
+
+abbrev pub receptionFits : Format → Reception → Bool
+receptionFits f r = receptionWithin f r && isUndecided f r
+
+abbrev pub samplerFits : Format → Sampler → Bool
+samplerFits f (Idle last) = true
+samplerFits f (Receiving r) = receptionFits f r
 
 -- held frames outlive a change of format
-abbrev pub placesIn : Places → Bool
-placesIn Empty = true
-placesIn (One a) = ltb (a .«data») 512
-placesIn (Two a b) = ltb (a .«data») 512 && ltb (b .«data») 512
+abbrev pub placesFit : Places → Bool
+placesFit Empty = true
+placesFit (One a) = ltb (a .«data») 512
+placesFit (Two a b) = ltb (a .«data») 512 && ltb (b .«data») 512
 
-abbrev pub receiverIn : Format → Receiver → Bool
-receiverIn f r = samplerIn f (r .sampler) && placesIn (r .queue .places)
+abbrev pub receiverFits : Format → Receiver → Bool
+receiverFits f r = samplerFits f (r .sampler) && placesFit (r .queue .places)
 
 -- idle, remembering low
 abbrev pub isLow : Sampler → Bool
@@ -74,35 +81,36 @@ abbrev pub isStopped : Receiver → Bool
 isStopped r = isLow (r .sampler) && isEmpty (r .queue .places) && not (r .queue .lost)
 
 -- a disabled receiver is stopped
-unfoldable pub disabledIn : Bool → Receiver → Bool
-disabledIn rxen r = pick rxen true (isStopped r)
+unfoldable pub disabledFits : Bool → Receiver → Bool
+disabledFits rxen r = pick rxen true (isStopped r)
 
-abbrev pub usartIn : Usart → Bool
-usartIn u =
-    baudIn (u .baud) && senderIn (u .format) (u .sender) && receiverIn (u .format) (u .receiver) && disabledIn (u .control .rxen) (u .receiver)
+abbrev pub usartFits : Usart → Bool
+usartFits u =
+    baudFits (u .baud) && senderFits (u .format) (u .sender) && receiverFits (u .format) (u .receiver)
+    && disabledFits (u .control .rxen) (u .receiver)
 
-abbrev pub controlIn : Control → Bool
-controlIn c = leb (c .spcr) 255 && leb (c .ddrb) 255
+abbrev pub controlFits : Control → Bool
+controlFits c = ltb (c .spcr) 256 && ltb (c .ddrb) 256
 
 abbrev pub countsWithin : Transfer → ℕ → Bool
-countsWithin t h = leb (t .shift) 255 && leb (t .received) 255 && ltb (t .edges) 16 && leb (t .left .0) h
+countsWithin t h = ltb (t .shift) 256 && ltb (t .received) 256 && ltb (t .edges) 16 && leb (t .left .0) h
 
-abbrev pub countsIn : Control → Transfer → Bool
-countsIn c t = countsWithin t (half c)
+abbrev pub countsFit : Control → Transfer → Bool
+countsFit c t = countsWithin t (half c)
 
 -- a disabled SPI has no transfer
-unfoldable pub enabledIn : Control → Transfer → Bool
-enabledIn c t = pick (isEnabled c) true (eqb (t .edges) 0 && eqb (t .left .0) 0)
+unfoldable pub enabledFits : Control → Transfer → Bool
+enabledFits c t = pick (isEnabled c) true (eqb (t .edges) 0 && eqb (t .left .0) 0)
 
 -- only a master waits for an edge, and its byte under way has one due
-unfoldable pub dueIn : Control → Transfer → Bool
-dueIn c t = pick (isMaster c) (pick (eqb (t .left .0) 0) (eqb (t .edges) 0) true) (eqb (t .left .0) 0)
+unfoldable pub dueFits : Control → Transfer → Bool
+dueFits c t = pick (isMaster c) (pick (eqb (t .left .0) 0) (eqb (t .edges) 0) true) (eqb (t .left .0) 0)
 
-abbrev pub transferIn : Control → Transfer → Bool
-transferIn c t = countsIn c t && enabledIn c t && dueIn c t
+abbrev pub transferFits : Control → Transfer → Bool
+transferFits c t = countsFit c t && enabledFits c t && dueFits c t
 
-abbrev pub spiIn : Spi → Bool
-spiIn s = controlIn (s .control) && transferIn (s .control) (s .transfer)
+abbrev pub spiFits : Spi → Bool
+spiFits s = controlFits (s .control) && transferFits (s .control) (s .transfer)
 
 unfoldable pub inRange : Device → Bool
-inRange d = usartIn (d .usart) && spiIn (d .spi)
+inRange d = usartFits (d .usart) && spiFits (d .spi)

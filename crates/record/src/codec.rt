@@ -1,14 +1,14 @@
 use crate::encode::image;
 use crate::spi_lift::spi_at;
-use crate::spi_ranges::spi_in;
+use crate::spi_ranges::spi_fits;
 use crate::usart_lift::usart_at;
-use crate::usart_ranges::usart_in;
+use crate::usart_ranges::usart_fits;
 use device::Device;
 ghost use mathlib.Core.Path.{_≡_};
 ghost use lib.ListN.{length};
 ghost use Rattle.record.specs.Lift.{deviceAt};
 ghost use Rattle.record.specs.Ranges.{inRange};
-ghost use Rattle.record.specs.Codec.{eqList, decodeOf, recordOf, storedOf};
+ghost use Rattle.record.specs.Codec.{eqList, decodeOf, storedOf};
 
 pub enum Decoded {
     Accepted(Device),
@@ -54,7 +54,7 @@ fn in_range(d: Device) -> bool
 {
     let u = d.usart;
     let s = d.spi;
-    usart_in(u) & spi_in(s)
+    usart_fits(u) & spi_fits(s)
 }
 
 // The device of a record. The comparison with its image refuses what no device would show: a flag of 2, an unknown code, a byte

@@ -3,13 +3,7 @@ use spi::Spi;
 use spi::Transfer;
 ghost use mathlib.Core.Path.{_≡_};
 ghost use Rattle.spi.specs.Control.{half};
-ghost use Rattle.record.specs.Ranges.{controlIn, countsIn, enabledIn, dueIn, transferIn, spiIn};
-
-fn control_in(c: Control) -> bool
-    ensures { λ r. ⌜ r ≡ controlIn c ⌝ }
-{
-    (c.spcr <= 255) & (c.ddrb <= 255)
-}
+ghost use Rattle.record.specs.Ranges.{countsFit, enabledFits, dueFits, transferFits, spiFits};
 
 // Half the clock divisor.
 fn half(c: Control) -> u8
@@ -18,16 +12,16 @@ fn half(c: Control) -> u8
     spi::half(c.divisor_number())
 }
 
-fn counts_in(c: Control, t: Transfer) -> bool
-    ensures { λ r. ⌜ r ≡ countsIn c t ⌝ }
+fn counts_fit(c: Control, t: Transfer) -> bool
+    ensures { λ r. ⌜ r ≡ countsFit c t ⌝ }
 {
     let h = half(c);
-    (t.shift <= 255) & (t.received <= 255) & (t.edges < 16) & (t.left.0 <= h)
+    (t.edges < 16) & (t.left.0 <= h)
 }
 
 // A disabled SPI has no transfer.
-fn enabled_in(c: Control, t: Transfer) -> bool
-    ensures { λ r. ⌜ r ≡ enabledIn c t ⌝ }
+fn enabled_fits(c: Control, t: Transfer) -> bool
+    ensures { λ r. ⌜ r ≡ enabledFits c t ⌝ }
 {
     if c.enabled() {
         return true;
@@ -36,8 +30,8 @@ fn enabled_in(c: Control, t: Transfer) -> bool
 }
 
 // Only a master waits for an edge, and its byte under way has one due.
-fn due_in(c: Control, t: Transfer) -> bool
-    ensures { λ r. ⌜ r ≡ dueIn c t ⌝ }
+fn due_fits(c: Control, t: Transfer) -> bool
+    ensures { λ r. ⌜ r ≡ dueFits c t ⌝ }
 {
     if c.master() {
         if t.left.0 == 0 {
@@ -48,16 +42,17 @@ fn due_in(c: Control, t: Transfer) -> bool
     t.left.0 == 0
 }
 
-fn transfer_in(c: Control, t: Transfer) -> bool
-    ensures { λ r. ⌜ r ≡ transferIn c t ⌝ }
+fn transfer_fits(c: Control, t: Transfer) -> bool
+    ensures { λ r. ⌜ r ≡ transferFits c t ⌝ }
 {
-    counts_in(c, t) & enabled_in(c, t) & due_in(c, t)
+    counts_fit(c, t) & enabled_fits(c, t) & due_fits(c, t)
 }
 
-pub fn spi_in(s: Spi) -> bool
-    ensures { λ r. ⌜ r ≡ spiIn s ⌝ }
+// SPCR, DDRB, shift register and receive buffer may be any byte.
+pub fn spi_fits(s: Spi) -> bool
+    ensures { λ r. ⌜ r ≡ spiFits s ⌝ }
 {
     let c = s.control;
     let t = s.transfer;
-    control_in(c) & transfer_in(c, t)
+    transfer_fits(c, t)
 }

@@ -2,7 +2,6 @@ use frame::Format;
 use usart::Baud;
 use usart::Buffer;
 use usart::Places;
-use usart::Queue;
 use usart::Receiver;
 use usart::Reception;
 use usart::Sampler;
@@ -11,12 +10,12 @@ use usart::Shifter;
 use usart::Transmission;
 use usart::Usart;
 ghost use mathlib.Core.Path.{_≡_};
-ghost use Prim.Native.Nat.{_≤_, _^_};
+ghost use Prim.Native.Nat.{_^_};
 ghost use Rattle.frame.specs.Format.{wordBits};
-ghost use Rattle.record.specs.Ranges.{baudIn, bufferBelow, transmissionIn, shifterIn, senderIn, receptionIn, samplerIn, placesIn, receiverIn, isLow, isStopped, disabledIn, usartIn};
+ghost use Rattle.record.specs.Ranges.{baudFits, bufferBelow, transmissionFits, shifterFits, senderFits, receptionWithin, isUndecided, receptionFits, samplerFits, placesFit, receiverFits, isLow, isStopped, disabledFits, usartFits};
 
-fn baud_in(b: Baud) -> bool
-    ensures { λ r. ⌜ r ≡ baudIn b ⌝ }
+fn baud_fits(b: Baud) -> bool
+    ensures { λ r. ⌜ r ≡ baudFits b ⌝ }
 {
     (b.ubrr < 4096) & (b.left.0 < 4096)
 }
@@ -37,8 +36,8 @@ fn buffer_below(b: Buffer, limit: u16) -> bool
     }
 }
 
-fn transmission_in(f: Format, t: Transmission) -> bool
-    ensures { λ r. ⌜ r ≡ transmissionIn f t ⌝ }
+fn transmission_fits(f: Format, t: Transmission) -> bool
+    ensures { λ r. ⌜ r ≡ transmissionFits f t ⌝ }
 {
     let limit = word_limit(f);
     let last = f.last_bit();
@@ -46,26 +45,26 @@ fn transmission_in(f: Format, t: Transmission) -> bool
     (t.word < limit) & (t.bit <= last) & (t.sample.0 < samples)
 }
 
-fn shifter_in(f: Format, s: Shifter) -> bool
-    ensures { λ r. ⌜ r ≡ shifterIn f s ⌝ }
+fn shifter_fits(f: Format, s: Shifter) -> bool
+    ensures { λ r. ⌜ r ≡ shifterFits f s ⌝ }
 {
     match s {
         Shifter::Resting => true,
-        Shifter::Sending(t) => transmission_in(f, t),
+        Shifter::Sending(t) => transmission_fits(f, t),
     }
 }
 
-fn sender_in(f: Format, s: Sender) -> bool
-    ensures { λ r. ⌜ r ≡ senderIn f s ⌝ }
+fn sender_fits(f: Format, s: Sender) -> bool
+    ensures { λ r. ⌜ r ≡ senderFits f s ⌝ }
 {
     let z = f.size;
     let b = s.buffer;
     let h = s.shifter;
-    buffer_below(b, z.weight()) & shifter_in(f, h)
+    buffer_below(b, z.weight()) & shifter_fits(f, h)
 }
 
-fn reception_in(f: Format, r: Reception) -> bool
-    ensures { λ b. ⌜ b ≡ receptionIn f r ⌝ }
+fn reception_within(f: Format, r: Reception) -> bool
+    ensures { λ b. ⌜ b ≡ receptionWithin f r ⌝ }
 {
     let limit = word_limit(f);
     let last = f.word_bits() + 1;
@@ -73,18 +72,37 @@ fn reception_in(f: Format, r: Reception) -> bool
     (r.word < limit) & (r.bit <= last) & (r.sample.0 < samples)
 }
 
-fn sampler_in(f: Format, s: Sampler) -> bool
-    ensures { λ r. ⌜ r ≡ samplerIn f s ⌝ }
+// The start bit has its first sample, and the stop bit not yet its last vote.
+fn undecided(f: Format, r: Reception) -> bool
+    ensures { λ b. ⌜ b ≡ isUndecided f r ⌝ }
+{
+    if r.bit == 0 {
+        return 1 <= r.sample.0;
+    }
+    if r.bit == f.word_bits() + 1 {
+        return r.sample.0 <= f.first_vote() + 1;
+    }
+    true
+}
+
+fn reception_fits(f: Format, r: Reception) -> bool
+    ensures { λ b. ⌜ b ≡ receptionFits f r ⌝ }
+{
+    reception_within(f, r) & undecided(f, r)
+}
+
+fn sampler_fits(f: Format, s: Sampler) -> bool
+    ensures { λ r. ⌜ r ≡ samplerFits f s ⌝ }
 {
     match s {
         Sampler::Idle(_) => true,
-        Sampler::Receiving(r) => reception_in(f, r),
+        Sampler::Receiving(r) => reception_fits(f, r),
     }
 }
 
 // Held frames outlive a change of format.
-fn places_in(p: Places) -> bool
-    ensures { λ r. ⌜ r ≡ placesIn p ⌝ }
+fn places_fit(p: Places) -> bool
+    ensures { λ r. ⌜ r ≡ placesFit p ⌝ }
 {
     match p {
         Places::Empty => true,
@@ -93,13 +111,13 @@ fn places_in(p: Places) -> bool
     }
 }
 
-fn receiver_in(f: Format, r: Receiver) -> bool
-    ensures { λ b. ⌜ b ≡ receiverIn f r ⌝ }
+fn receiver_fits(f: Format, r: Receiver) -> bool
+    ensures { λ b. ⌜ b ≡ receiverFits f r ⌝ }
 {
     let s = r.sampler;
     let q = r.queue;
     let p = q.places;
-    sampler_in(f, s) & places_in(p)
+    sampler_fits(f, s) & places_fit(p)
 }
 
 // Idle, and the last sample was low.
@@ -120,8 +138,8 @@ fn stopped(r: Receiver) -> bool
     low(s) & q.empty() & !q.lost
 }
 
-fn disabled_in(rxen: bool, r: Receiver) -> bool
-    ensures { λ b. ⌜ b ≡ disabledIn rxen r ⌝ }
+fn disabled_fits(rxen: bool, r: Receiver) -> bool
+    ensures { λ b. ⌜ b ≡ disabledFits rxen r ⌝ }
 {
     if rxen {
         return true;
@@ -129,13 +147,13 @@ fn disabled_in(rxen: bool, r: Receiver) -> bool
     stopped(r)
 }
 
-pub fn usart_in(u: Usart) -> bool
-    ensures { λ r. ⌜ r ≡ usartIn u ⌝ }
+pub fn usart_fits(u: Usart) -> bool
+    ensures { λ r. ⌜ r ≡ usartFits u ⌝ }
 {
     let b = u.baud;
     let f = u.format;
     let c = u.control;
     let s = u.sender;
     let r = u.receiver;
-    baud_in(b) & sender_in(f, s) & receiver_in(f, r) & disabled_in(c.rxen, r)
+    baud_fits(b) & sender_fits(f, s) & receiver_fits(f, r) & disabled_fits(c.rxen, r)
 }

@@ -8,6 +8,7 @@ pub mod ClockLaws
 pub mod ReceivingLine
 pub mod SendingLine
 pub mod ValidLaws
+pub mod ClosedLists
 pub mod Witness
 pub mod OutputLaws
 pub mod AppendLaws

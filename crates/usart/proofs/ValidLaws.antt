@@ -1,12 +1,13 @@
 -- Every operation keeps the ranges, and reset has them.
-use mathlib.Core.Path.{_≡_, refl, _∙_, ap}
+use mathlib.Core.Path.{_≡_, refl, sym, _∙_, ap}
 use mathlib.Core.Bool.{Bool, true, false}
 use Prim.Native.Nat.{ℕ, _+_, _-_, _*_, _/_, _%_, _^_, _≤_, _<_}
-use native.Mathlib.Nat.{mod-lt}
+use native.Mathlib.Nat.{mod-lt, eq-or-lt-of-le}
+use mathlib.Core.Logic.{⊎-elim}
 use native.Mathlib.Omega.{arith}
-use lib.Dec.{eqb, ltb, leb, lit<}
+use lib.Dec.{eqb, ltb, leb, lit<, lit≤}
 use lib.Pow.{pow-pos, pow-mono, pow-add}
-use borrow.Author.Tests.{ltb-true, leb-true, leb-false}
+use borrow.Author.Tests.{eqb-true, eqb-false, ltb-true, ltb-false, leb-true, leb-false}
 use Rattle.choice.specs.Pick.{pick, digit}
 use Rattle.choice.proofs.Picks.{pick-ind}
 use Rattle.frame.specs.Format.{samples, firstVote, dataBits, wordBits, lastBit}
@@ -52,6 +53,18 @@ use Rattle.usart.specs.declared.write.Register.{Register}
 use Rattle.usart.specs.declared.write.Register.the-variants.{Ucsr0a, Ucsr0b, Ucsr0c, Ubrr0l, Ubrr0h, Udr0}
 use Rattle.usart.specs.declared.write.Written.{Written}
 
+-- a sample of bit r: its number is n
+record Sampling (f : Format) (r : Reception) (n : Sample) (q : Reception) : Type 0 where
+  pub word : q .word < 2 ^ wordBits f
+  pub limit : q .bit ≤ wordBits f + 1
+  pub below : q .sample .0 < samples f
+  pub first : 1 ≤ q .sample .0
+  pub bit : q .bit ≡ r .bit
+  pub sample : q .sample .0 ≡ n .0
+
+under : (s v : ℕ) → s ≤ v + 1 → (s + 1 ≡ v + 2 → ⊥) → s + 1 ≤ v + 1
+under s v h o = ⊎-elim (λ e. absurd (o (omega (arith, e)))) (λ l. omega (arith, l)) (eq-or-lt-of-le h)
+
 valid-baud : (b : Baud) → ValidBaud b → ValidBaud (baudOf b)
 unfolding leftOf
 valid-baud b v = record {
@@ -86,22 +99,46 @@ module _ (f : Format) where
   valid-idle : (last rxd : Bool) → ValidSampler f (idleOf last rxd .sampler)
   unfolding idleOf
   valid-idle true true = tt
-  valid-idle true false = record { word = pow-pos (wordBits f); bit = omega arith; sample = omega (arith, s8) }
+  valid-idle true false = record {
+    word = pow-pos (wordBits f);
+    bit = omega arith;
+    sample = omega (arith, s8);
+    start = λ _. lit≤ tt;
+    stop = λ z. absurd (omega arith);
+  }
   valid-idle false rxd = tt
 
-  valid-cast : (r : Reception) (n : Sample) (rxd : Bool) → ValidReception f r → n .0 < samples f → ValidReception f (castOf f r n rxd)
+  -- a sample that has been taken, at the bit of r: all but what its vote decides
+  valid-cast : (r : Reception) (n : Sample) (rxd : Bool) → ValidReception f r → n .0 < samples f → 1 ≤ n .0 → Sampling f r n (castOf f r n rxd)
   unfolding castOf
-  valid-cast r n rxd v h =
-      let w : (q : Reception) → q .word ≡ r .word → q .bit ≡ r .bit → q .sample .0 ≡ n .0 → ValidReception f q =
-      λ q ew eb es. record { word = rw ew (v .word); bit = rw eb (v .bit); sample = rw es h } in
-      pick-ind (ValidReception f) (eqb (n .0) (firstVote f)) _ _ (λ e. w _ refl refl refl)
-      (λ e. pick-ind (ValidReception f) (eqb (n .0) (firstVote f + 1)) _ _ (λ g. w _ refl refl refl) (λ g. w _ refl refl refl))
+  valid-cast r n rxd v h one =
+      let w : (q : Reception) → q .word ≡ r .word → q .bit ≡ r .bit → q .sample .0 ≡ n .0 → Sampling f r n q =
+      λ q ew eb es. record { word = rw ew (v .word); limit = rw eb (v .bit); below = rw es h; first = rw es one; bit = eb; sample = es } in
+      pick-ind (Sampling f r n) (eqb (n .0) (firstVote f)) _ _ (λ e. w _ refl refl refl)
+      (λ e. pick-ind (Sampling f r n) (eqb (n .0) (firstVote f + 1)) _ _ (λ g. w _ refl refl refl) (λ g. w _ refl refl refl))
 
-  valid-next : (r : Reception) → ValidReception f r → ValidReception f (nextBitOf f r)
+  -- .. which is valid where the stop bit's last vote is not yet cast
+  valid-undecided : (r : Reception) (n : Sample) (q : Reception) → Sampling f r n q → (r .bit ≡ wordBits f + 1 → n .0 ≤ firstVote f + 1) → ValidReception f q
+  valid-undecided r n q c k = record {
+    word = c .word;
+    bit = c .limit;
+    sample = c .below;
+    start = λ _. c .first;
+    stop = λ e. rw (c .sample) (k (sym (c .bit) ∙ e));
+  }
+
+  -- the last sample of a bit is no sample of the stop bit
+  valid-next : (r : Reception) → ValidReception f r → samples f ≤ r .sample .0 + 1 → ValidReception f (nextBitOf f r)
   unfolding nextBitOf
-  valid-next r v =
+  valid-next r v h =
       pick-ind (ValidReception f) (leb (r .bit) (wordBits f)) _ _
-      (λ e. record { word = v .word; bit = omega (arith, leb-true (r .bit) (wordBits f) e); sample = omega (arith, s8) })
+      (λ e. record {
+        word = v .word;
+        bit = omega (arith, leb-true (r .bit) (wordBits f) e);
+        sample = omega (arith, s8);
+        start = λ z. absurd (omega arith);
+        stop = λ _. omega arith;
+      })
       (λ e. v)
 
   valid-shifted : (r : Reception) (m : Bool) → ValidReception f r → ValidReception f (shiftedOf f r m)
@@ -110,15 +147,15 @@ module _ (f : Format) where
       let D : ℕ = wordBits f in
       let p : 2 ^ D ≡ 2 * 2 ^ (D - 1) = ap (λ (n : ℕ). 2 ^ n) (omega (arith, word-bits-range f)) ∙ pow-add 2 1 (D - 1) in
       pick-ind (ValidReception f) m _ _
-      (λ e. record { word = rw p (omega (arith, v .word)); bit = v .bit; sample = v .sample })
-      (λ e. record { word = omega (arith, v .word); bit = v .bit; sample = v .sample })
+      (λ e. record { word = rw p (omega (arith, v .word)); bit = v .bit; sample = v .sample; start = v .start; stop = v .stop })
+      (λ e. record { word = omega (arith, v .word); bit = v .bit; sample = v .sample; start = v .start; stop = v .stop })
 
-  valid-decided : (r : Reception) (rxd m : Bool) → ValidReception f r → ValidSampler f (decidedOf f r rxd m .sampler)
+  valid-decided : (r : Reception) (rxd m : Bool) → (r .bit ≤ wordBits f → ValidReception f r) → ValidSampler f (decidedOf f r rxd m .sampler)
   unfolding decidedOf
   valid-decided r rxd m v =
       let F : Sampled → Type 0 = λ o. ValidSampler f (o .sampler) in
-      pick-ind F (eqb (r .bit) 0) _ _ (λ e. pick-ind F m _ _ (λ g. tt) (λ g. v))
-      (λ e. pick-ind F (leb (r .bit) (wordBits f)) _ _ (λ g. valid-shifted r m v) (λ g. tt))
+      pick-ind F (eqb (r .bit) 0) _ _ (λ e. pick-ind F m _ _ (λ g. tt) (λ g. v (omega (arith, eqb-true (r .bit) 0 e))))
+      (λ e. pick-ind F (leb (r .bit) (wordBits f)) _ _ (λ g. valid-shifted r m (v (leb-true (r .bit) (wordBits f) g))) (λ g. tt))
 
   valid-sampled : (r : Reception) (rxd : Bool) → ValidReception f r → ValidSampler f (sampledOf f r rxd .sampler)
   unfolding sampledOf votedOf
@@ -127,9 +164,13 @@ module _ (f : Format) where
       let n : Sample = record { 0 = r .sample .0 + 1 } in
       pick-ind F (ltb (r .sample .0) (samples f - 1)) _ _
       (λ e.
-      let c = valid-cast r n rxd v (omega (arith, ltb-true (r .sample .0) (samples f - 1) e)) in
-      pick-ind F (eqb (r .sample .0 + 1) (firstVote f + 2)) _ _ (λ g. valid-decided (castOf f r n rxd) rxd _ c) (λ g. c))
-      (λ e. valid-next r v)
+      let c = valid-cast r n rxd v (omega (arith, ltb-true (r .sample .0) (samples f - 1) e)) (omega arith) in
+      pick-ind F (eqb (r .sample .0 + 1) (firstVote f + 2)) _ _
+      (λ g. valid-decided (castOf f r n rxd) rxd _ (λ l. valid-undecided r n (castOf f r n rxd) c (λ z. absurd (omega (arith, l, c .bit, z)))))
+      (λ g.
+      let o : r .sample .0 + 1 ≡ firstVote f + 2 → ⊥ = eqb-false (r .sample .0 + 1) (firstVote f + 2) g in
+      valid-undecided r n (castOf f r n rxd) c (λ z. under (r .sample .0) (firstVote f) (v .stop z) o)))
+      (λ e. valid-next r v (omega (arith, ltb-false (r .sample .0) (samples f - 1) e, s8)))
 
   valid-sampler : (p : Sampler) (rxd : Bool) → ValidSampler f p → ValidSampler f (samplerOf f p rxd .sampler)
   unfolding samplerOf

@@ -1,15 +1,11 @@
 -- The receiving theorem is not empty: a closed list of events that meets every premise with two frames, at unequal crystals, with reads,
 -- a write of UDR0, refused accesses and a vector among the clocks.
-use mathlib.Core.Path.{_≡_, refl, sym}
+use mathlib.Core.Path.{_≡_, refl}
 use mathlib.Core.Bool.{Bool, true, false}
 use mathlib.Core.List.{List, [], _∷_}
-use Prim.Native.Nat.{ℕ, zero, suc, _≤_, _<_}
+use Prim.Native.Nat.{ℕ, zero, suc}
 use native.Mathlib.Omega.{arith}
-use lib.Dec.{ltb, lit≤, lit<}
-use lib.ListN.{length}
-use borrow.Author.Tests.{ltb-true}
-use Rattle.choice.specs.Pick.{pick}
-use Rattle.choice.proofs.Picks.{both}
+use lib.Dec.{lit≤, lit<}
 use Rattle.frame.specs.Parity.{sumOfBits}
 use Rattle.frame.specs.Word.{frameBit, parityError}
 use Rattle.frame.specs.declared.format.Size.the-variants.{Five}
@@ -21,61 +17,17 @@ use Rattle.usart.specs.Receiver.{listenedOf}
 use Rattle.usart.specs.Unit.{isBusy, clockOf}
 use Rattle.usart.specs.Settings.{sizeOf, parityOf}
 use Rattle.usart.specs.Write.{formattedOf, writeC, isReservedC, sizedC, timedOf, transmittedOf, vectorOf}
-use Rattle.usart.specs.Event.{Event, clock, write, read, vector, nextOf, levelsOf}
-use Rattle.usart.specs.Line.{Sent, lineLevel, Shows}
-use Rattle.usart.specs.Receiving.{heldBy, isComplete, outcomeAt, Free, Hears, Delivered}
+use Rattle.usart.specs.Event.{Event, clock, write, read, vector, levelsOf}
+use Rattle.usart.specs.Line.{Sent, lineLevel}
+use Rattle.usart.specs.Receiving.{Hears, Delivered}
 use Rattle.usart.specs.declared.sender.Buffer.the-variants.{Vacant}
 use Rattle.usart.specs.declared.sender.Shifter.the-variants.{Resting}
 use Rattle.usart.specs.declared.sampler.Sampler.the-variants.{Idle}
 use Rattle.usart.specs.declared.queue.Places.the-variants.{Empty}
 use Rattle.usart.specs.declared.unit.Usart.{Usart}
 use Rattle.usart.specs.declared.write.Register.the-variants.{Ucsr0a, Ucsr0c, Ubrr0l, Udr0}
+use Rattle.usart.proofs.ClosedLists.{bool-eqb, shown, shown-shows, room, free, free-free}
 use Rattle.usart.proofs.ReceivingLine.{receives}
-
--- the levels and the free places of a closed list are found by computing
-bool-eqb : Bool → Bool → Bool
-bool-eqb true b = b
-bool-eqb false true = false
-bool-eqb false false = true
-
-bool-eq : (a b : Bool) → bool-eqb a b ≡ true → a ≡ b
-unfolding bool-eqb
-bool-eq true b e = sym e
-bool-eq false false e = refl
-bool-eq false true e = e
-
-shown : (ℕ → Bool) → ℕ → List Bool → Bool
-shown w j [] = true
-shown w j (l ∷ ls) = pick (bool-eqb l (w j)) (shown w (suc j) ls) false
-
-shown-shows : (w : ℕ → Bool) (j : ℕ) (ls : List Bool) → shown w j ls ≡ true → Shows w j ls
-unfolding shown
-shown-shows w j [] e = tt
-shown-shows w j (l ∷ ls) e =
-    let b = both (bool-eqb l (w j)) (shown w (suc j) ls) e in (bool-eq l (w j) (b .0), shown-shows w (suc j) ls (b .1))
-
-room : Usart → Bool → Bool
-room u l = pick (isComplete (outcomeAt u l)) (ltb (length (heldBy u)) 2) true
-
-free : Usart → List Event → Bool
-free u [] = true
-free u (clock l ∷ es) = pick (room u l) (free (clockOf u l) es) false
-free u (write r v ∷ es) = free (nextOf u (write r v)) es
-free u (read r ∷ es) = free (nextOf u (read r)) es
-free u (vector ∷ es) = free (nextOf u vector) es
-
-room-free : (u : Usart) (l : Bool) → room u l ≡ true → isComplete (outcomeAt u l) ≡ true → length (heldBy u) < 2
-unfolding room
-room-free u l e c = ltb-true (length (heldBy u)) 2 (rw c at e)
-
-free-free : (u : Usart) (es : List Event) → free u es ≡ true → Free u es
-unfolding free
-free-free u [] e = tt
-free-free u (clock l ∷ es) e =
-    let b = both (room u l) (free (clockOf u l) es) e in (room-free u l (b .0), free-free (clockOf u l) es (b .1))
-free-free u (write r v ∷ es) e = free-free (nextOf u (write r v)) es e
-free-free u (read r ∷ es) e = free-free (nextOf u (read r)) es e
-free-free u (vector ∷ es) e = free-free (nextOf u vector) es e
 
 -- 5 data bits, even parity, double speed, UBRR 0: D = 6, a bit of the receiver is 8 clocks
 unfoldable pub start : Usart

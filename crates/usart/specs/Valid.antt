@@ -3,7 +3,7 @@
 use Prim.Native.Nat.{_+_, _^_, _<_, _≤_}
 use mathlib.Core.Bool.{false}
 use mathlib.Core.Path.{_≡_}
-use Rattle.frame.specs.Format.{samples, dataBits, wordBits, lastBit}
+use Rattle.frame.specs.Format.{samples, firstVote, dataBits, wordBits, lastBit}
 use Rattle.frame.specs.declared.format.Format.{Format}
 use Rattle.usart.specs.Receiver.{stopped}
 use Rattle.usart.specs.declared.baud.Baud.{Baud}
@@ -44,11 +44,13 @@ pub record ValidSender (f : Format) (s : Sender) : Type 0 where
   pub buffer : ValidBuffer f (s .buffer)
   pub shifter : ValidShifter f (s .shifter)
 
--- bits 0 to D + 1, the first stop bit
+-- bits 0 to D + 1, the first stop bit; the start bit has its first sample, and the stop bit not yet its last vote
 pub record ValidReception (f : Format) (r : Reception) : Type 0 where
   pub word : r .word < 2 ^ wordBits f
   pub bit : r .bit ≤ wordBits f + 1
   pub sample : r .sample .0 < samples f
+  pub start : r .bit ≡ 0 → 1 ≤ r .sample .0
+  pub stop : r .bit ≡ wordBits f + 1 → r .sample .0 ≤ firstVote f + 1
 
 abbrev pub ValidSampler : Format → Sampler → Type 0
 ValidSampler f (Idle last) = Unit {0}

@@ -8,13 +8,6 @@ use Rattle.record.proofs.Accepting.{tests, accepted, refused, wrong-len
 use borrow.Author.Needs.{needs}
 use Rattle.record.proofs.codec.decode.Statement.{statement}
 use Rattle.record.proofs.codec.decode.Tie as tie
-use Rattle.record.proofs.codec.decode.Reads as reads
-use Rattle.record.proofs.codec.decode.Lts as lts
-use Rattle.record.proofs.codec.device_at.Reads as device-at-reads
-use Rattle.record.proofs.codec.equal.Reads as equal-reads
-use Rattle.record.proofs.codec.in_range.Reads as in-range-reads
-use Rattle.record.proofs.codec.taken.Reads as taken-reads
-use Rattle.record.proofs.encode.image.Reads as image-reads
 
 returns : tie.Need-returns
 unfolding decodeOf

@@ -1,10 +1,6 @@
 use borrow.Author.Needs.{needs}
 use Rattle.record.proofs.codec.device_at.Statement.{statement}
 use Rattle.record.proofs.codec.device_at.Tie as tie
-use Rattle.record.proofs.codec.device_at.Reads as reads
-use Rattle.record.proofs.codec.device_at.Lts as lts
-use Rattle.record.proofs.spi_lift.spi_at.Reads as spi-at-reads
-use Rattle.record.proofs.usart_lift.usart_at.Reads as usart-at-reads
 
 usart-at-requires : tie.Need-usart-at-requires
 usart-at-requires c κs = search needs

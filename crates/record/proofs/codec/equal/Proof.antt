@@ -2,9 +2,6 @@ use Rattle.record.proofs.ListLaws.{same-is}
 use borrow.Author.Needs.{needs}
 use Rattle.record.proofs.codec.equal.Statement.{statement}
 use Rattle.record.proofs.codec.equal.Tie as tie
-use Rattle.record.proofs.codec.equal.Reads as reads
-use Rattle.record.proofs.codec.equal.Lts as lts
-use Rattle.check.proofs.same.Reads as same-reads
 
 slice-aggregate-same : tie.Need-slice-aggregate-same
 slice-aggregate-same c = search needs

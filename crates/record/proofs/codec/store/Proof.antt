@@ -5,10 +5,6 @@ use Rattle.record.specs.Codec.{recordOf, storedOf}
 use borrow.Author.Needs.{needs}
 use Rattle.record.proofs.codec.store.Statement.{statement}
 use Rattle.record.proofs.codec.store.Tie as tie
-use Rattle.record.proofs.codec.store.Reads as reads
-use Rattle.record.proofs.codec.store.Lts as lts
-use Rattle.record.proofs.codec.put.Reads as put-reads
-use Rattle.record.proofs.encode.image.Reads as image-reads
 
 image-requires : tie.Need-image-requires
 image-requires c κs = search needs

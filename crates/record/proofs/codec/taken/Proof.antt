@@ -3,9 +3,6 @@ use Rattle.record.proofs.ListLaws.{copied}
 use borrow.Author.Needs.{needs}
 use Rattle.record.proofs.codec.taken.Statement.{statement}
 use Rattle.record.proofs.codec.taken.Tie as tie
-use Rattle.record.proofs.codec.taken.Reads as reads
-use Rattle.record.proofs.codec.taken.Lts as lts
-use Rattle.bytes.proofs.copy.Reads as copy-reads
 
 slice-aggregate-copy : tie.Need-slice-aggregate-copy
 slice-aggregate-copy c = search needs

@@ -2,8 +2,6 @@ use Rattle.choice.proofs.Picks.{picks}
 use Rattle.record.specs.Codes.{flagOf}
 use Rattle.record.proofs.codes.flag_of.Statement.{statement}
 use Rattle.record.proofs.codes.flag_of.Tie as tie
-use Rattle.record.proofs.codes.flag_of.Reads as reads
-use Rattle.record.proofs.codes.flag_of.Lts as lts
 
 returns : tie.Need-returns
 unfolding flagOf

@@ -3,9 +3,6 @@ use Rattle.record.specs.Codes.{sizeIn}
 use borrow.Author.Needs.{needs}
 use Rattle.record.proofs.codes.known_size.Statement.{statement}
 use Rattle.record.proofs.codes.known_size.Tie as tie
-use Rattle.record.proofs.codes.known_size.Reads as reads
-use Rattle.record.proofs.codes.known_size.Lts as lts
-use Rattle.usart.proofs.size_of.Reads as size-of-reads
 
 size-of-requires : tie.Need-size-of-requires
 size-of-requires c κs = search needs

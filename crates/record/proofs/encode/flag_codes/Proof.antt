@@ -1,9 +1,6 @@
 use borrow.Author.Needs.{needs}
 use Rattle.record.proofs.encode.flag_codes.Statement.{statement}
 use Rattle.record.proofs.encode.flag_codes.Tie as tie
-use Rattle.record.proofs.encode.flag_codes.Reads as reads
-use Rattle.record.proofs.encode.flag_codes.Lts as lts
-use Rattle.record.proofs.codes.flag_code.Reads as flag-code-reads
 
 flag-code-requires : tie.Need-flag-code-requires
 flag-code-requires c κs = search needs

@@ -1,10 +1,6 @@
 use borrow.Author.Needs.{needs}
 use Rattle.record.proofs.encode.format_codes.Statement.{statement}
 use Rattle.record.proofs.encode.format_codes.Tie as tie
-use Rattle.record.proofs.encode.format_codes.Reads as reads
-use Rattle.record.proofs.encode.format_codes.Lts as lts
-use Rattle.usart.proofs.size_code.Reads as size-code-reads
-use Rattle.usart.proofs.upm.Reads as upm-reads
 
 size-code-requires : tie.Need-size-code-requires
 size-code-requires c κs = search needs

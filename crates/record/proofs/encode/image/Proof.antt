@@ -2,13 +2,6 @@ use mathlib.Core.Path.{_∙_}
 use borrow.Author.Needs.{needs}
 use Rattle.record.proofs.encode.image.Statement.{statement}
 use Rattle.record.proofs.encode.image.Tie as tie
-use Rattle.record.proofs.encode.image.Reads as reads
-use Rattle.record.proofs.encode.image.Lts as lts
-use Rattle.record.proofs.encode.flag_codes.Reads as flag-codes-reads
-use Rattle.record.proofs.encode.format_codes.Reads as format-codes-reads
-use Rattle.record.proofs.encode.image_with.Reads as image-with-reads
-use Rattle.record.proofs.parts.receiver_parts.Reads as receiver-parts-reads
-use Rattle.record.proofs.parts.sender_parts.Reads as sender-parts-reads
 
 format-codes-requires : tie.Need-format-codes-requires
 format-codes-requires c κs = search needs

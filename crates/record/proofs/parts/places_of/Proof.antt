@@ -2,8 +2,6 @@ use Rattle.choice.proofs.Picks.{picks}
 use Rattle.record.specs.Parts.{placesOf}
 use Rattle.record.proofs.parts.places_of.Statement.{statement}
 use Rattle.record.proofs.parts.places_of.Tie as tie
-use Rattle.record.proofs.parts.places_of.Reads as reads
-use Rattle.record.proofs.parts.places_of.Lts as lts
 
 returns : tie.Need-returns
 unfolding placesOf

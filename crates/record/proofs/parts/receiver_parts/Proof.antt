@@ -1,14 +1,6 @@
 use borrow.Author.Needs.{needs}
 use Rattle.record.proofs.parts.receiver_parts.Statement.{statement}
 use Rattle.record.proofs.parts.receiver_parts.Tie as tie
-use Rattle.record.proofs.parts.receiver_parts.Reads as reads
-use Rattle.record.proofs.parts.receiver_parts.Lts as lts
-use Rattle.record.proofs.parts.held.Reads as held-reads
-use Rattle.record.proofs.parts.reception.Reads as reception-reads
-use Rattle.record.proofs.parts.remembered.Reads as remembered-reads
-use Rattle.record.proofs.parts.second.Reads as second-reads
-use Rattle.usart.proofs.queue.Queue.oldest.Reads as oldest-reads
-use Rattle.usart.proofs.sampler.Sampler.receiving.Reads as receiving-reads
 
 receiving-requires : tie.Need-receiving-requires
 receiving-requires c κs = search needs

@@ -1,8 +1,6 @@
 use borrow.Author.Needs.{needs}
 use Rattle.record.proofs.parts.reception.Statement.{statement}
 use Rattle.record.proofs.parts.reception.Tie as tie
-use Rattle.record.proofs.parts.reception.Reads as reads
-use Rattle.record.proofs.parts.reception.Lts as lts
 
 enum-told : tie.Need-enum-told
 enum-told c = search needs

@@ -2,8 +2,6 @@ use Rattle.choice.proofs.Picks.{picks}
 use Rattle.record.specs.Parts.{samplerOf}
 use Rattle.record.proofs.parts.sampler_of.Statement.{statement}
 use Rattle.record.proofs.parts.sampler_of.Tie as tie
-use Rattle.record.proofs.parts.sampler_of.Reads as reads
-use Rattle.record.proofs.parts.sampler_of.Lts as lts
 
 returns : tie.Need-returns
 unfolding samplerOf

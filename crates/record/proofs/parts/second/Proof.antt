@@ -1,8 +1,6 @@
 use borrow.Author.Needs.{needs}
 use Rattle.record.proofs.parts.second.Statement.{statement}
 use Rattle.record.proofs.parts.second.Tie as tie
-use Rattle.record.proofs.parts.second.Reads as reads
-use Rattle.record.proofs.parts.second.Lts as lts
 
 enum-told : tie.Need-enum-told
 enum-told c = search needs

@@ -1,12 +1,6 @@
 use borrow.Author.Needs.{needs}
 use Rattle.record.proofs.parts.sender_parts.Statement.{statement}
 use Rattle.record.proofs.parts.sender_parts.Tie as tie
-use Rattle.record.proofs.parts.sender_parts.Reads as reads
-use Rattle.record.proofs.parts.sender_parts.Lts as lts
-use Rattle.record.proofs.parts.data.Reads as data-reads
-use Rattle.record.proofs.parts.transmission.Reads as transmission-reads
-use Rattle.usart.proofs.sender.Sender.resting.Reads as resting-reads
-use Rattle.usart.proofs.sender.Sender.vacant.Reads as vacant-reads
 
 vacant-requires : tie.Need-vacant-requires
 vacant-requires c κs = search needs

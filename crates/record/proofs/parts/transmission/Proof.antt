@@ -1,8 +1,6 @@
 use borrow.Author.Needs.{needs}
 use Rattle.record.proofs.parts.transmission.Statement.{statement}
 use Rattle.record.proofs.parts.transmission.Tie as tie
-use Rattle.record.proofs.parts.transmission.Reads as reads
-use Rattle.record.proofs.parts.transmission.Lts as lts
 
 enum-told : tie.Need-enum-told
 enum-told c = search needs

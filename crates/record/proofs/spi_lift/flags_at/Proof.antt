@@ -1,9 +1,6 @@
 use borrow.Author.Needs.{needs}
 use Rattle.record.proofs.spi_lift.flags_at.Statement.{statement}
 use Rattle.record.proofs.spi_lift.flags_at.Tie as tie
-use Rattle.record.proofs.spi_lift.flags_at.Reads as reads
-use Rattle.record.proofs.spi_lift.flags_at.Lts as lts
-use Rattle.record.proofs.codes.flag_of.Reads as flag-of-reads
 
 array-read-flag-of : tie.Need-array-read-flag-of
 array-read-flag-of c = search needs

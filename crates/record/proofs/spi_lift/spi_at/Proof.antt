@@ -1,12 +1,6 @@
 use borrow.Author.Needs.{needs}
 use Rattle.record.proofs.spi_lift.spi_at.Statement.{statement}
 use Rattle.record.proofs.spi_lift.spi_at.Tie as tie
-use Rattle.record.proofs.spi_lift.spi_at.Reads as reads
-use Rattle.record.proofs.spi_lift.spi_at.Lts as lts
-use Rattle.record.proofs.spi_lift.control_at.Reads as control-at-reads
-use Rattle.record.proofs.spi_lift.flags_at.Reads as flags-at-reads
-use Rattle.record.proofs.spi_lift.pins_at.Reads as pins-at-reads
-use Rattle.record.proofs.spi_lift.transfer_at.Reads as transfer-at-reads
 
 control-at-requires : tie.Need-control-at-requires
 control-at-requires c κs = search needs

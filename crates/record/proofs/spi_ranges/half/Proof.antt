@@ -3,10 +3,6 @@ use Rattle.spi.specs.Divisor.{halfOf}
 use borrow.Author.Needs.{needs}
 use Rattle.record.proofs.spi_ranges.half.Statement.{statement}
 use Rattle.record.proofs.spi_ranges.half.Tie as tie
-use Rattle.record.proofs.spi_ranges.half.Reads as reads
-use Rattle.record.proofs.spi_ranges.half.Lts as lts
-use Rattle.spi.proofs.control.Control.divisor_number.Reads as divisor-number-reads
-use Rattle.spi.proofs.half.Reads as half-reads
 
 divisor-number-requires : tie.Need-divisor-number-requires
 divisor-number-requires c κs = search needs

@@ -3,11 +3,6 @@ use Rattle.record.specs.Lift.{formatWith}
 use borrow.Author.Needs.{needs}
 use Rattle.record.proofs.usart_lift.format_at.Statement.{statement}
 use Rattle.record.proofs.usart_lift.format_at.Tie as tie
-use Rattle.record.proofs.usart_lift.format_at.Reads as reads
-use Rattle.record.proofs.usart_lift.format_at.Lts as lts
-use Rattle.record.proofs.codes.known_size.Reads as known-size-reads
-use Rattle.record.proofs.usart_lift.format_with.Reads as format-with-reads
-use Rattle.usart.proofs.parity_of.Reads as parity-of-reads
 
 array-read-known-size : tie.Need-array-read-known-size
 array-read-known-size c = search needs

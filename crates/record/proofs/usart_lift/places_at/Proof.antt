@@ -4,11 +4,6 @@ use Rattle.record.specs.Parts.{placesOf}
 use borrow.Author.Needs.{needs}
 use Rattle.record.proofs.usart_lift.places_at.Statement.{statement}
 use Rattle.record.proofs.usart_lift.places_at.Tie as tie
-use Rattle.record.proofs.usart_lift.places_at.Reads as reads
-use Rattle.record.proofs.usart_lift.places_at.Lts as lts
-use Rattle.record.proofs.parts.places_of.Reads as places-of-reads
-use Rattle.record.proofs.usart_lift.oldest_at.Reads as oldest-at-reads
-use Rattle.record.proofs.usart_lift.second_at.Reads as second-at-reads
 
 array-read-places-of : tie.Need-array-read-places-of
 array-read-places-of c = search needs

@@ -3,10 +3,6 @@ use Rattle.record.specs.Lift.{queueWith}
 use borrow.Author.Needs.{needs}
 use Rattle.record.proofs.usart_lift.queue_at.Statement.{statement}
 use Rattle.record.proofs.usart_lift.queue_at.Tie as tie
-use Rattle.record.proofs.usart_lift.queue_at.Reads as reads
-use Rattle.record.proofs.usart_lift.queue_at.Lts as lts
-use Rattle.record.proofs.usart_lift.places_at.Reads as places-at-reads
-use Rattle.record.proofs.usart_lift.queue_with.Reads as queue-with-reads
 
 places-at-requires : tie.Need-places-at-requires
 places-at-requires c κs = search needs

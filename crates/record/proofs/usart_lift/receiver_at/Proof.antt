@@ -1,10 +1,6 @@
 use borrow.Author.Needs.{needs}
 use Rattle.record.proofs.usart_lift.receiver_at.Statement.{statement}
 use Rattle.record.proofs.usart_lift.receiver_at.Tie as tie
-use Rattle.record.proofs.usart_lift.receiver_at.Reads as reads
-use Rattle.record.proofs.usart_lift.receiver_at.Lts as lts
-use Rattle.record.proofs.usart_lift.queue_at.Reads as queue-at-reads
-use Rattle.record.proofs.usart_lift.sampler_at.Reads as sampler-at-reads
 
 sampler-at-requires : tie.Need-sampler-at-requires
 sampler-at-requires c κs = search needs

@@ -4,10 +4,6 @@ use Rattle.record.specs.Parts.{samplerOf}
 use borrow.Author.Needs.{needs}
 use Rattle.record.proofs.usart_lift.sampler_at.Statement.{statement}
 use Rattle.record.proofs.usart_lift.sampler_at.Tie as tie
-use Rattle.record.proofs.usart_lift.sampler_at.Reads as reads
-use Rattle.record.proofs.usart_lift.sampler_at.Lts as lts
-use Rattle.record.proofs.parts.sampler_of.Reads as sampler-of-reads
-use Rattle.record.proofs.usart_lift.reception_at.Reads as reception-at-reads
 
 array-read-sampler-of : tie.Need-array-read-sampler-of
 array-read-sampler-of c = search needs

@@ -3,11 +3,6 @@ use Rattle.record.specs.Lift.{senderWith}
 use borrow.Author.Needs.{needs}
 use Rattle.record.proofs.usart_lift.sender_at.Statement.{statement}
 use Rattle.record.proofs.usart_lift.sender_at.Tie as tie
-use Rattle.record.proofs.usart_lift.sender_at.Reads as reads
-use Rattle.record.proofs.usart_lift.sender_at.Lts as lts
-use Rattle.record.proofs.usart_lift.buffer_at.Reads as buffer-at-reads
-use Rattle.record.proofs.usart_lift.sender_with.Reads as sender-with-reads
-use Rattle.record.proofs.usart_lift.shifter_at.Reads as shifter-at-reads
 
 buffer-at-requires : tie.Need-buffer-at-requires
 buffer-at-requires c κs = search needs

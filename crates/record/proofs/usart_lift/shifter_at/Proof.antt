@@ -4,10 +4,6 @@ use Rattle.record.specs.Parts.{shifterOf}
 use borrow.Author.Needs.{needs}
 use Rattle.record.proofs.usart_lift.shifter_at.Statement.{statement}
 use Rattle.record.proofs.usart_lift.shifter_at.Tie as tie
-use Rattle.record.proofs.usart_lift.shifter_at.Reads as reads
-use Rattle.record.proofs.usart_lift.shifter_at.Lts as lts
-use Rattle.record.proofs.parts.shifter_of.Reads as shifter-of-reads
-use Rattle.record.proofs.usart_lift.transmission_at.Reads as transmission-at-reads
 
 array-read-shifter-of : tie.Need-array-read-shifter-of
 array-read-shifter-of c = search needs

@@ -1,13 +1,6 @@
 use borrow.Author.Needs.{needs}
 use Rattle.record.proofs.usart_lift.usart_at.Statement.{statement}
 use Rattle.record.proofs.usart_lift.usart_at.Tie as tie
-use Rattle.record.proofs.usart_lift.usart_at.Reads as reads
-use Rattle.record.proofs.usart_lift.usart_at.Lts as lts
-use Rattle.record.proofs.usart_lift.baud_at.Reads as baud-at-reads
-use Rattle.record.proofs.usart_lift.control_at.Reads as control-at-reads
-use Rattle.record.proofs.usart_lift.format_at.Reads as format-at-reads
-use Rattle.record.proofs.usart_lift.receiver_at.Reads as receiver-at-reads
-use Rattle.record.proofs.usart_lift.sender_at.Reads as sender-at-reads
 
 baud-at-requires : tie.Need-baud-at-requires
 baud-at-requires c κs = search needs

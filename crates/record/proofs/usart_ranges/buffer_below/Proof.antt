@@ -1,8 +1,6 @@
 use borrow.Author.Needs.{needs}
 use Rattle.record.proofs.usart_ranges.buffer_below.Statement.{statement}
 use Rattle.record.proofs.usart_ranges.buffer_below.Tie as tie
-use Rattle.record.proofs.usart_ranges.buffer_below.Reads as reads
-use Rattle.record.proofs.usart_ranges.buffer_below.Lts as lts
 
 enum-told : tie.Need-enum-told
 enum-told c = search needs

@@ -1,10 +1,6 @@
 use borrow.Author.Needs.{needs}
 use Rattle.record.proofs.usart_ranges.stopped.Statement.{statement}
 use Rattle.record.proofs.usart_ranges.stopped.Tie as tie
-use Rattle.record.proofs.usart_ranges.stopped.Reads as reads
-use Rattle.record.proofs.usart_ranges.stopped.Lts as lts
-use Rattle.record.proofs.usart_ranges.low.Reads as low-reads
-use Rattle.usart.proofs.queue.Queue.empty.Reads as empty-reads
 
 low-requires : tie.Need-low-requires
 low-requires c κs = search needs

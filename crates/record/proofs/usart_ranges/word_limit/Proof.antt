@@ -4,9 +4,6 @@ use Rattle.record.proofs.CodeLaws.{limit-top}
 use borrow.Author.Needs.{needs}
 use Rattle.record.proofs.usart_ranges.word_limit.Statement.{statement}
 use Rattle.record.proofs.usart_ranges.word_limit.Tie as tie
-use Rattle.record.proofs.usart_ranges.word_limit.Reads as reads
-use Rattle.record.proofs.usart_ranges.word_limit.Lts as lts
-use Rattle.frame.proofs.format.Format.top.Reads as top-reads
 
 top-requires : tie.Need-top-requires
 top-requires c κs = search needs

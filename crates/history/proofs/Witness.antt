@@ -1,0 +1,250 @@
+-- Demand 3 is not empty: at each speed a closed history that meets every premise, with two frames at unequal crystals, and with refused calls, SPI
+-- traffic, reads, a write of UDR0, vectors and reports among the runs.
+use Prim.Native.Nat.{ℕ, zero, suc, _+_, _*_, _≤_}
+use mathlib.Core.Bool.{Bool, true, false}
+use mathlib.Core.List.{List, [], _∷_, _++_, map}
+use mathlib.Core.Path.{_≡_, refl, sym, ap, subst, _∙_}
+use native.Mathlib.Omega.{arith}
+use lib.Dec.{eqb, lit≤, lit<}
+use lib.ListN.{length}
+use borrow.Author.Tests.{eqb-true}
+use Rattle.choice.specs.Pick.{pick, digit}
+use Rattle.choice.proofs.Picks.{both, pick-ind}
+use Rattle.frame.specs.Format.{samples}
+use Rattle.frame.specs.Limit.{limit, Within}
+use Rattle.frame.specs.Parity.{sumOfBits}
+use Rattle.frame.specs.Word.{frameBit, parityError}
+use Rattle.frame.specs.declared.format.Size.the-variants.{Five}
+use Rattle.frame.specs.declared.format.Parity.the-variants.{Even}
+use Rattle.usart.specs.Baud.{leftOf}
+use Rattle.usart.specs.Event.{levelsOf}
+use Rattle.usart.specs.Line.{Sent, lineLevel, Spaced, EndedBy, Shows}
+use Rattle.usart.specs.Receiver.{listenedOf}
+use Rattle.usart.specs.Receiving.{Free as FreeAt}
+use Rattle.usart.specs.Sampler.{idleOf, castOf, nextBitOf, shiftedOf, decidedOf, votedOf, sampledOf, samplerOf}
+use Rattle.usart.specs.Sender.{steppedOf}
+use Rattle.usart.specs.Settings.{sizeOf, parityOf}
+use Rattle.usart.specs.Unit.{isBusy, clockOf}
+use Rattle.usart.specs.Write.{formattedOf, writeC, isReservedC, sizedC, timedOf, transmittedOf, vectorOf as serialVectorOf}
+use Rattle.usart.specs.declared.queue.Places.the-variants.{Empty}
+use Rattle.usart.specs.declared.sampler.Sampler.the-variants.{Idle}
+use Rattle.usart.specs.declared.sender.Buffer.the-variants.{Vacant}
+use Rattle.usart.specs.declared.sender.Shifter.the-variants.{Resting}
+use Rattle.usart.specs.declared.unit.Usart.{Usart}
+use Rattle.usart.proofs.ClosedLists.{bool-eqb, shown, shown-shows, room, free, free-free}
+use Rattle.spi.specs.Unit.{resetSpi}
+use Rattle.spi.specs.Clock.{masterOf, steppedOf as spiStepped, completedFlags}
+use Rattle.spi.specs.Control.{numberOf}
+use Rattle.spi.specs.Register.{writeSpcr, startedOf, loadedOf, vectorOf as spiVectorOf}
+use Rattle.spi.specs.Transfer.{isUnderWay, edgedOf}
+use Rattle.spi.specs.Unit.{differs, isRequested}
+use Rattle.spi.proofs.ValidLaws.{valid-reset}
+use Rattle.shifter.specs.Edge.{isSampling, isPutting, edgeOf}
+use Rattle.shifter.specs.Order.{outBit, shiftedIn}
+use Rattle.device.specs.Address.{placeOf}
+use Rattle.device.specs.Answer.{answerOf}
+use Rattle.device.specs.Register.{writeOf, vectorOf}
+use Rattle.device.specs.Run.{ranOf, areLevels}
+use Rattle.device.specs.Serial.{isSerial, clocksOf, vectorsAt}
+use Rattle.device.specs.Valid.{Valid}
+use Rattle.device.specs.declared.unit.Device.{Device}
+use Rattle.record.specs.Codec.{decodeOf, recordOf}
+use Rattle.record.specs.declared.codec.Decoded.the-variants.{Accepted}
+use Rattle.record.proofs.Round.{decode-record}
+use Rattle.warpmagpie.specs.Calls.{runOn}
+use Rattle.history.specs.Call.{Call, reset, write, read, vector, run, report, Passable, serialIn, usartOf, OnlyDataCall, OnlyData, rxdOf}
+use Rattle.history.specs.Receiving.{FreeCall, Free, Hears, Delivered}
+use Rattle.history.proofs.StepLaws.{nextDevice, write-on, induct}
+use Rattle.history.proofs.ViewLaws.{runs, viewOf, runs-is}
+use Rattle.history.proofs.ReceivingView.{rxd-view}
+use Rattle.history.proofs.ReceivingLine.{receives}
+
+-- no serial register but UDR0 is written, as a test on the device
+unfoldable only : Device → Call → Bool
+only d reset = false
+only d (write a v) = pick (eqb (answerOf (writeOf d a v)) 0) (pick (isSerial (placeOf a)) (eqb a 0xC6) true) true
+only d (read a) = true
+only d (vector n) = true
+only d (run ls os) = true
+only d report = true
+
+unfoldable onlyAll : Device → List Call → Bool
+onlyAll d [] = true
+onlyAll d (c ∷ cs) = pick (only d c) (onlyAll (nextDevice d c) cs) false
+
+only-write : (n : ℕ) (t : Bool) (a : ℕ) → pick (eqb n 0) (pick t (eqb a 0xC6) true) true ≡ true → n ≡ 0 → t ≡ true → a ≡ 0xC6
+only-write n t a e hn ht = eqb-true a 0xC6 (rw (hn, ht) at e)
+
+only-call : (s : List ℕ) (d : Device) → decodeOf s ≡ Accepted d → (c : Call) → only d c ≡ true → OnlyDataCall s c
+unfolding only
+only-call s d h reset e = let z : _≡_ {A = ℕ} 0 1 = cc in omega arith
+only-call s d h (write a v) e = λ n t. only-write (answerOf (writeOf d a v)) (isSerial (placeOf a)) a e (sym (ap answerOf (write-on s d h a v)) ∙ n) t
+only-call s d h (read a) e = tt
+only-call s d h (vector n) e = tt
+only-call s d h (run ls os) e = tt
+only-call s d h report e = tt
+
+only-all : (s : List ℕ) (d : Device) (cs : List Call) → decodeOf s ≡ Accepted d → Passable cs → onlyAll d cs ≡ true → OnlyData s cs
+unfolding onlyAll
+only-all =
+    induct (λ (s : List ℕ) (d : Device) (cs : List Call). onlyAll d cs ≡ true → OnlyData s cs)
+    (λ s d h e. tt)
+    (λ s d c cs h k e. let b = both (only d c) (onlyAll (nextDevice d c) cs) e in (only-call s d h c (b .0), k (b .1)))
+
+-- a place is free whenever a frame completes, as a test on the device
+unfoldable roomy : Device → Call → Bool
+roomy d reset = true
+roomy d (write a v) = true
+roomy d (read a) = true
+roomy d (vector n) = true
+roomy d (run ls os) = pick (runs d ls os) (free (d .usart) (clocksOf ls)) true
+roomy d report = true
+
+unfoldable roomyAll : Device → List Call → Bool
+roomyAll d [] = true
+roomyAll d (c ∷ cs) = pick (roomy d c) (roomyAll (nextDevice d c) cs) false
+
+roomy-call : (s : List ℕ) (d : Device) → decodeOf s ≡ Accepted d → (c : Call) → roomy d c ≡ true → FreeCall s c
+unfolding roomy
+roomy-call s d h reset e = tt
+roomy-call s d h (write a v) e = tt
+roomy-call s d h (read a) e = tt
+roomy-call s d h (vector n) e = tt
+roomy-call s d h (run ls os) e = λ r.
+    let t : runs d ls os ≡ true = sym (runs-is s d h ls os) ∙ r in
+    subst (λ (u : Usart). FreeAt u (clocksOf ls)) (sym (ap serialIn h)) (free-free (d .usart) (clocksOf ls) (rw t at e))
+roomy-call s d h report e = tt
+
+roomy-all : (s : List ℕ) (d : Device) (cs : List Call) → decodeOf s ≡ Accepted d → Passable cs → roomyAll d cs ≡ true → Free s cs
+unfolding roomyAll
+roomy-all =
+    induct (λ (s : List ℕ) (d : Device) (cs : List Call). roomyAll d cs ≡ true → Free s cs)
+    (λ s d h e. tt)
+    (λ s d c cs h k e. let b = both (roomy d c) (roomyAll (nextDevice d c) cs) e in (roomy-call s d h c (b .0), k (b .1)))
+
+-- 5 data bits, even parity, UBRR 0: D = 6, a bit of the receiver is 8 or 16 clocks; the SPI as after reset
+unfoldable pub start : Bool → Device
+start u2x = record {
+  usart = record {
+    baud = record { ubrr = 0; left = record { 0 = 0 } };
+    format = record { size = Five; parity = Even; usbs = false; u2x = u2x };
+    control = record { rxcie = true; txcie = false; udrie = false; rxen = true; txen = true; txb8 = false };
+    sender = record { buffer = Vacant; shifter = Resting; txc = false };
+    receiver = record { sampler = Idle true; queue = record { places = Empty; lost = false } };
+  };
+  spi = resetSpi;
+}
+
+-- clocks a bit of the receiver
+abbrev scale : Bool → ℕ
+scale u2x = pick u2x 1 2
+
+-- two frames; a bit of the sender is 8.13 or 16.26 clocks, 1.6 percent off
+unfoldable pub frames : Bool → List Sent
+frames u2x = record { start = 3; «data» = 21 } ∷ record { start = 70 * scale u2x; «data» = 10 } ∷ []
+
+unfoldable pub level : Bool → ℕ → Bool
+level u2x j = lineLevel (start u2x .usart .format) (813 * scale u2x) 100 (frames u2x) j
+
+-- the level bytes of n clocks, the first at clock j, with SS high
+unfoldable pub line : Bool → ℕ → ℕ → List ℕ
+line u2x j zero = []
+line u2x j (suc n) = (digit (level u2x j) + 16) ∷ line u2x (suc j) n
+
+unfoldable pub blank : ℕ → List ℕ
+blank zero = []
+blank (suc n) = 0 ∷ blank n
+
+abbrev pub runFor : Bool → ℕ → ℕ → Call
+runFor u2x j n = run (line u2x j n) (blank n)
+
+-- in mid-frame: SPI set up as master and a byte sent, every kind of refusal but 5, a byte for the sender, a read of the empty buffer; the first frame
+-- is read while the second is on the line
+unfoldable pub calls : Bool → List Call
+calls u2x =
+    let n : ℕ = 20 * scale u2x in
+    let m : ℕ = 60 * scale u2x in
+    runFor u2x 0 n ∷ write 0x24 0x2C ∷ write 0x4C 0x50 ∷ write 0x4E 0xA5 ∷ write 0x4E 0x5A ∷ write 0x4C 0x51 ∷ read 0x4D ∷ write 0xC4 7 ∷ write 0xC2 0xC0 ∷ write 0xC2 0x16
+    ∷ write 0xC3 1 ∷ read 0x99 ∷ vector 0 ∷ vector 1 ∷ vector 7 ∷ run (1 ∷ []) [] ∷ run (33 ∷ []) (0 ∷ []) ∷ run [] [] ∷ report ∷ write 0xC6 85 ∷ read 0xC0 ∷ read 0xC6
+    ∷ runFor u2x n m ∷ report ∷ read 0xC6 ∷ read 0x4E ∷ runFor u2x (n + m) m ∷ []
+
+valid : (u2x : Bool) → Valid (start u2x)
+unfolding start
+valid u2x = record {
+  usart = record {
+    baud = record { ubrr = lit< tt; left = lit< tt };
+    sender = record { buffer = tt; shifter = tt };
+    receiver = record { sampler = tt; places = tt };
+    disabled = λ e. absurd (let z : _≡_ {A = ℕ} 0 1 = cc in omega arith);
+  };
+  spi = valid-reset;
+}
+
+passable : (u2x : Bool) → Passable (calls u2x)
+unfolding calls
+passable u2x =
+    (tt, (lit< tt, (lit< tt, (lit< tt, (lit< tt, (lit< tt, (tt, (lit< tt, (lit< tt, (lit< tt, (lit< tt, (tt, (tt, (tt, (tt, (tt, (tt, (tt, (tt, (lit< tt, (tt, (tt, (tt, (tt, (tt, (tt, (tt, tt)))))))))))))))))))))))))))
+
+-- what is found by computing: the calls' tests, and that the done runs show the line
+unfoldable meets : Bool → Bool
+meets u2x = pick (onlyAll (start u2x) (calls u2x)) (pick (roomyAll (start u2x) (calls u2x)) (shown (level u2x) 0 (levelsOf (viewOf (start u2x) (calls u2x)))) false) false
+
+computed : (u2x : Bool) → meets u2x ≡ true
+unfolding meets only onlyAll roomy roomyAll start frames level line blank calls shown free room bool-eqb lineLevel frameBit sumOfBits leftOf steppedOf idleOf castOf nextBitOf shiftedOf decidedOf votedOf sampledOf samplerOf listenedOf isBusy clockOf sizeOf parityOf formattedOf writeC isReservedC sizedC timedOf transmittedOf serialVectorOf parityError placeOf ranOf areLevels runOn vectorOf vectorsAt spiStepped masterOf completedFlags numberOf writeSpcr startedOf loadedOf spiVectorOf isUnderWay edgedOf differs isRequested isSampling isPutting edgeOf outBit shiftedIn
+computed true = refl
+computed false = refl
+
+one : (u2x : Bool) → 1 ≤ 813 * scale u2x
+one true = lit≤ tt
+one false = lit≤ tt
+
+within : (u2x : Bool) → Within (limit u2x 6) (samples (start u2x .usart .format) * (0 + 1) * 100) (813 * scale u2x)
+unfolding start
+within true = (lit≤ tt, lit≤ tt)
+within false = (lit≤ tt, lit≤ tt)
+
+spaced : (u2x : Bool) → Spaced 6 (813 * scale u2x) 100 (frames u2x)
+unfolding frames
+spaced true = (lit≤ tt, (tt, tt))
+spaced false = (lit≤ tt, (tt, tt))
+
+clocks : (u2x : Bool) → length (levelsOf (viewOf (start u2x) (calls u2x))) ≡ 140 * scale u2x
+unfolding start frames level line blank calls lineLevel frameBit sumOfBits areLevels runOn vectorsAt placeOf
+clocks true = refl
+clocks false = refl
+
+ended : (u2x : Bool) → EndedBy 6 (813 * scale u2x) 100 (140 * scale u2x) (frames u2x)
+unfolding frames
+ended true = lit≤ tt
+ended false = lit≤ tt
+
+-- every premise of demand 3 holds of it
+pub witness : (u2x : Bool) → Hears (813 * scale u2x) 100 (frames u2x) (start u2x) (recordOf (start u2x)) (calls u2x)
+unfolding start frames level meets
+witness u2x =
+    let d = start u2x in
+    let s = recordOf d in
+    let cs = calls u2x in
+    let h : decodeOf s ≡ Accepted d = decode-record d (valid u2x) in
+    let p = passable u2x in
+    let a = both (onlyAll d cs) _ (computed u2x) in
+    let b = both (roomyAll d cs) _ (a .1) in
+    let o = only-all s d cs h p (a .0) in
+    let e : levelsOf (viewOf d cs) ≡ rxdOf s cs = sym (rxd-view s d cs h p o) in
+    record {
+      valid = h;
+      ready = record { enabled = refl; idle = refl; empty = refl; noLoss = refl; counter = lit≤ tt };
+      passable = p;
+      onlyData = o;
+      p1 = one u2x;
+      q1 = lit≤ tt;
+      within = within u2x;
+      fits = (lit< tt, (lit< tt, tt));
+      spaced = spaced u2x;
+      shows = subst (Shows (level u2x) 0) e (shown-shows (level u2x) 0 (levelsOf (viewOf d cs)) (b .1));
+      ended = subst (λ (n : ℕ). EndedBy 6 (813 * scale u2x) 100 n (frames u2x)) (sym (clocks u2x) ∙ ap length e) (ended u2x);
+      free = roomy-all s d cs h p (b .0);
+    }
+
+pub witnessed : (u2x : Bool) → Delivered (813 * scale u2x) 100 (frames u2x) (start u2x) (recordOf (start u2x)) (calls u2x)
+witnessed u2x = receives (813 * scale u2x) 100 (frames u2x) (start u2x) (recordOf (start u2x)) (calls u2x) (witness u2x)

@@ -1,0 +1,158 @@
+/* Warpmagpie: USART0 (asynchronous) and SPI of an ATmega328P, for a rig that has the processor core.
+
+   The rig lends a device as a record of 64 bytes and calls the functions below. Each answers a number (WARPMAGPIE_DONE or a
+   refusal). A refusal leaves every byte of record and outputs as it was, and puts 0 where a value is answered.
+
+   What C has to keep: a pointer points to as many bytes as its length says (it must not be null, also where the length is 0), and the
+   memory of one argument does not overlap that of another. Nothing else is asked of any argument. The record's bytes are described in
+   docs/RECORD.md; a rig need not know them. A record may be copied, stored and brought back. */
+#ifndef WARPMAGPIE_H
+#define WARPMAGPIE_H
+
+#include <stddef.h>
+#include <stdint.h>
+
+#ifdef __cplusplus
+extern "C" {
+#endif
+
+#define WARPMAGPIE_RECORD_LEN 64
+
+/* Answers. Where more than one refusal applies, the order is 5, 1, 2, 3, 4; for a run 5, 6, 7; for a vector 5, 1, 8. */
+enum warpmagpie_answer {
+    WARPMAGPIE_DONE = 0,
+    WARPMAGPIE_UNKNOWN = 1,     /* no such register address or vector */
+    WARPMAGPIE_RESERVED = 2,    /* reserved setting */
+    WARPMAGPIE_UNMODELLED = 3,  /* mode not modelled */
+    WARPMAGPIE_UNDER_WAY = 4,   /* setting changed while a frame or transfer is under way */
+    WARPMAGPIE_RECORD = 5,      /* record not 64 bytes, a field out of its range, or an unused byte not zero */
+    WARPMAGPIE_LENGTH = 6,      /* output slice not as long as the level slice */
+    WARPMAGPIE_LEVEL = 7,       /* a level byte with bit 5, 6 or 7 set */
+    WARPMAGPIE_UNREQUESTED = 8  /* vector taken without its request */
+};
+
+/* Register addresses, in data space. */
+enum warpmagpie_address {
+    WARPMAGPIE_UCSR0A = 0xC0,
+    WARPMAGPIE_UCSR0B = 0xC1,
+    WARPMAGPIE_UCSR0C = 0xC2,
+    WARPMAGPIE_UBRR0L = 0xC4,
+    WARPMAGPIE_UBRR0H = 0xC5,
+    WARPMAGPIE_UDR0 = 0xC6,
+    WARPMAGPIE_SPCR = 0x4C,
+    WARPMAGPIE_SPSR = 0x4D,
+    WARPMAGPIE_SPDR = 0x4E,
+    WARPMAGPIE_DDRB = 0x24
+};
+
+/* Bits of the registers. */
+enum warpmagpie_ucsr0a {
+    WARPMAGPIE_RXC = 0x80,
+    WARPMAGPIE_TXC = 0x40,
+    WARPMAGPIE_UDRE = 0x20,
+    WARPMAGPIE_FE = 0x10,
+    WARPMAGPIE_DOR = 0x08,
+    WARPMAGPIE_UPE = 0x04,
+    WARPMAGPIE_U2X = 0x02,
+    WARPMAGPIE_MPCM = 0x01
+};
+enum warpmagpie_ucsr0b {
+    WARPMAGPIE_RXCIE = 0x80,
+    WARPMAGPIE_TXCIE = 0x40,
+    WARPMAGPIE_UDRIE = 0x20,
+    WARPMAGPIE_RXEN = 0x10,
+    WARPMAGPIE_TXEN = 0x08,
+    WARPMAGPIE_UCSZ2 = 0x04,
+    WARPMAGPIE_RXB8 = 0x02,
+    WARPMAGPIE_TXB8 = 0x01
+};
+enum warpmagpie_ucsr0c {
+    WARPMAGPIE_UPM_EVEN = 0x20,
+    WARPMAGPIE_UPM_ODD = 0x30,
+    WARPMAGPIE_USBS = 0x08,
+    WARPMAGPIE_UCSZ1 = 0x04,
+    WARPMAGPIE_UCSZ0 = 0x02
+};
+enum warpmagpie_spcr {
+    WARPMAGPIE_SPIE = 0x80,
+    WARPMAGPIE_SPE = 0x40,
+    WARPMAGPIE_DORD = 0x20,
+    WARPMAGPIE_MSTR = 0x10,
+    WARPMAGPIE_CPOL = 0x08,
+    WARPMAGPIE_CPHA = 0x04,
+    WARPMAGPIE_SPR1 = 0x02,
+    WARPMAGPIE_SPR0 = 0x01
+};
+enum warpmagpie_spsr {
+    WARPMAGPIE_SPIF = 0x80,
+    WARPMAGPIE_WCOL = 0x40,
+    WARPMAGPIE_SPI2X = 0x01
+};
+enum warpmagpie_ddrb {
+    WARPMAGPIE_DDRB_SS = 0x04,
+    WARPMAGPIE_DDRB_MOSI = 0x08,
+    WARPMAGPIE_DDRB_MISO = 0x10,
+    WARPMAGPIE_DDRB_SCK = 0x20
+};
+
+/* Level byte of a clock: what the pins carry. Bits 5, 6 and 7 are 0. */
+enum warpmagpie_level {
+    WARPMAGPIE_LEVEL_RXD = 0x01,
+    WARPMAGPIE_LEVEL_MISO = 0x02,
+    WARPMAGPIE_LEVEL_MOSI = 0x04,
+    WARPMAGPIE_LEVEL_SCK = 0x08,
+    WARPMAGPIE_LEVEL_SS = 0x10
+};
+
+/* Output byte after a clock: levels that the device puts on its pins, and which pins it drives. A pin that is not driven shows 0. */
+enum warpmagpie_output {
+    WARPMAGPIE_OUTPUT_TXD = 0x01,
+    WARPMAGPIE_OUTPUT_MOSI = 0x02,
+    WARPMAGPIE_OUTPUT_MISO = 0x04,
+    WARPMAGPIE_OUTPUT_SCK = 0x08,
+    WARPMAGPIE_DRIVES_TXD = 0x10,
+    WARPMAGPIE_DRIVES_MOSI = 0x20,
+    WARPMAGPIE_DRIVES_MISO = 0x40,
+    WARPMAGPIE_DRIVES_SCK = 0x80
+};
+
+/* Bits of a report: a flag that is set with its interrupt enabled. */
+enum warpmagpie_request {
+    WARPMAGPIE_REQUEST_RXC = 0x01,
+    WARPMAGPIE_REQUEST_UDRE = 0x02,
+    WARPMAGPIE_REQUEST_TXC = 0x04,
+    WARPMAGPIE_REQUEST_SPIF = 0x08
+};
+
+/* Vectors that clear the flag which asked for them. The processor core takes the others without a call: RXC is cleared by reading UDR0,
+   UDRE by writing it. */
+enum warpmagpie_vector {
+    WARPMAGPIE_VECTOR_TXC = 0,
+    WARPMAGPIE_VECTOR_SPIF = 1
+};
+
+/* Makes the record that of a device after reset, whatever its bytes were. Answers 0; 5 if record_len is not 64. */
+uint8_t warpmagpie_reset(uint8_t *record, size_t record_len);
+
+/* Writes a register. Answers 0, 1, 2, 3, 4 or 5. */
+uint8_t warpmagpie_write(uint8_t *record, size_t record_len, uint16_t address, uint8_t value);
+
+/* Reads a register into *value, with what the read does to the device (UDR0 takes the oldest frame away, SPSR arms, SPDR clears what is
+   armed). Answers 0, 1 or 5; *value is 0 on a refusal. */
+uint8_t warpmagpie_read(uint8_t *record, size_t record_len, uint16_t address, uint8_t *value);
+
+/* Takes an interrupt vector: 0 clears TXC, 1 clears SPIF. Answers 0, 1, 5, or 8 where its request does not stand. */
+uint8_t warpmagpie_take_vector(uint8_t *record, size_t record_len, uint8_t vector);
+
+/* Runs a clock for each level byte and writes the output byte after each. All level bytes are checked before any clock passes. Answers 0,
+   5, 6 or 7. A run of no clocks is done and changes nothing. */
+uint8_t warpmagpie_run(uint8_t *record, size_t record_len, const uint8_t *levels, size_t levels_len, uint8_t *outputs, size_t outputs_len);
+
+/* Reports the interrupt requests into *requests. Answers 0 or 5; *requests is 0 on a refusal. The record is not changed. */
+uint8_t warpmagpie_requests(const uint8_t *record, size_t record_len, uint8_t *requests);
+
+#ifdef __cplusplus
+}
+#endif
+
+#endif

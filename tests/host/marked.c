@@ -1,0 +1,131 @@
+/* M8 and M10 of document 01 through the archive, and a few refusals at the C boundary. Exits with 1 at the first difference. */
+#include <stdio.h>
+#include <stdlib.h>
+#include <string.h>
+
+#include "warpmagpie.h"
+
+static uint8_t record[WARPMAGPIE_RECORD_LEN];
+
+static void expect(const char *what, unsigned got, unsigned wanted)
+{
+    if (got != wanted) {
+        printf("%s: got %u, wanted %u\n", what, got, wanted);
+        exit(1);
+    }
+}
+
+static void done(const char *what, uint8_t answer)
+{
+    expect(what, answer, WARPMAGPIE_DONE);
+}
+
+static void put(uint16_t address, uint8_t value)
+{
+    done("write", warpmagpie_write(record, sizeof record, address, value));
+}
+
+static uint8_t get(uint16_t address)
+{
+    uint8_t value = 0xEE;
+    done("read", warpmagpie_read(record, sizeof record, address, &value));
+    return value;
+}
+
+static uint8_t clocks(uint8_t level, int count)
+{
+    uint8_t output = 0;
+    for (int i = 0; i < count; i++)
+        done("run", warpmagpie_run(record, sizeof record, &level, 1, &output, 1));
+    return output;
+}
+
+/* M8: UBRR 0, 8 bits, no parity, 1 stop, one byte written: start bit on clock 1, UDRE back on clock 1, TXC on clock 161. */
+static void m8(void)
+{
+    done("reset", warpmagpie_reset(record, sizeof record));
+    expect("UCSR0A after reset", get(WARPMAGPIE_UCSR0A), 0x20);
+    expect("UCSR0C after reset", get(WARPMAGPIE_UCSR0C), 0x06);
+    put(WARPMAGPIE_UCSR0B, WARPMAGPIE_TXEN);
+    expect("TxD before the write", clocks(WARPMAGPIE_LEVEL_RXD, 1), WARPMAGPIE_DRIVES_TXD | WARPMAGPIE_OUTPUT_TXD);
+    put(WARPMAGPIE_UDR0, 0x55);
+    expect("UDRE after the write", get(WARPMAGPIE_UCSR0A) & WARPMAGPIE_UDRE, 0);
+    for (int n = 1; n <= 161; n++) {
+        uint8_t output = clocks(WARPMAGPIE_LEVEL_RXD, 1);
+        uint8_t status = get(WARPMAGPIE_UCSR0A);
+        if (n == 1) {
+            expect("TxD on clock 1", output, WARPMAGPIE_DRIVES_TXD);
+            expect("UDRE on clock 1", status & WARPMAGPIE_UDRE, WARPMAGPIE_UDRE);
+        }
+        expect("TXC", status & WARPMAGPIE_TXC, n == 161 ? WARPMAGPIE_TXC : 0);
+    }
+    puts("M8: start bit and UDRE on clock 1, TXC on clock 161");
+}
+
+/* A frame of 8 data bits on RxD, at 16 clocks a bit, with a stop bit and one bit of rest after it. */
+static void line(uint8_t data)
+{
+    clocks(0, 16);
+    for (int bit = 0; bit < 8; bit++)
+        clocks(data >> bit & 1, 16);
+    clocks(WARPMAGPIE_LEVEL_RXD, 32);
+}
+
+/* A read of UDR0, with the flags just before it. */
+static void take(unsigned data, unsigned dor)
+{
+    uint8_t status = get(WARPMAGPIE_UCSR0A);
+    expect("RXC before a read", status & WARPMAGPIE_RXC, WARPMAGPIE_RXC);
+    expect("DOR before a read", status & WARPMAGPIE_DOR, dor);
+    expect("FE and UPE before a read", status & (WARPMAGPIE_FE | WARPMAGPIE_UPE), 0);
+    expect("UDR0", get(WARPMAGPIE_UDR0), data);
+}
+
+/* M10: three frames unread, two reads, a fourth frame: reads give 1 and 2 without DOR, 4 with DOR. */
+static void m10(void)
+{
+    done("reset", warpmagpie_reset(record, sizeof record));
+    put(WARPMAGPIE_UCSR0B, WARPMAGPIE_RXEN);
+    clocks(WARPMAGPIE_LEVEL_RXD, 16);
+    line(1);
+    line(2);
+    line(3);
+    take(1, 0);
+    take(2, 0);
+    line(4);
+    take(4, WARPMAGPIE_DOR);
+    expect("RXC at the end", get(WARPMAGPIE_UCSR0A) & WARPMAGPIE_RXC, 0);
+    puts("M10: reads give 1 and 2 without DOR, 4 with DOR");
+}
+
+static void refusals(void)
+{
+    uint8_t before[WARPMAGPIE_RECORD_LEN], levels[3] = {1, 0x20, 1}, outputs[3] = {7, 7, 7}, value = 9;
+    done("reset", warpmagpie_reset(record, sizeof record));
+    memcpy(before, record, sizeof before);
+    expect("unknown address", warpmagpie_write(record, sizeof record, 0xC3, 0), WARPMAGPIE_UNKNOWN);
+    expect("reserved setting", warpmagpie_write(record, sizeof record, WARPMAGPIE_UCSR0C, 0x16), WARPMAGPIE_RESERVED);
+    expect("mode not modelled", warpmagpie_write(record, sizeof record, WARPMAGPIE_UCSR0C, 0x46), WARPMAGPIE_UNMODELLED);
+    expect("unknown vector", warpmagpie_take_vector(record, sizeof record, 2), WARPMAGPIE_UNKNOWN);
+    expect("vector without request", warpmagpie_take_vector(record, sizeof record, 0), WARPMAGPIE_UNREQUESTED);
+    expect("lengths", warpmagpie_run(record, sizeof record, levels, 3, outputs, 2), WARPMAGPIE_LENGTH);
+    expect("levels", warpmagpie_run(record, sizeof record, levels, 3, outputs, 3), WARPMAGPIE_LEVEL);
+    expect("outputs untouched", outputs[0] + outputs[1] + outputs[2], 21);
+    done("no clocks", warpmagpie_run(record, sizeof record, levels, 0, outputs, 0));
+    expect("short record", warpmagpie_read(record, 63, WARPMAGPIE_UCSR0A, &value), WARPMAGPIE_RECORD);
+    expect("value of a refused read", value, 0);
+    expect("record untouched", (unsigned)memcmp(before, record, sizeof before), 0);
+    record[63] = 1;
+    expect("stray byte", warpmagpie_requests(record, sizeof record, &value), WARPMAGPIE_RECORD);
+    done("reset of any bytes", warpmagpie_reset(record, sizeof record));
+    expect("record after reset", (unsigned)memcmp(before, record, sizeof before), 0);
+    puts("refusals 1, 2, 3, 5, 6, 7 and 8: numbers as given, nothing touched");
+}
+
+int main(void)
+{
+    m8();
+    m10();
+    refusals();
+    return 0;
+}
