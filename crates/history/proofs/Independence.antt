@@ -9,14 +9,15 @@ use Rattle.usart.specs.Event.{Event, clock, write as writes, read as reads, vec
 use Rattle.usart.specs.Read.{readOf as serialReadOf}
 use Rattle.usart.specs.Sending.{outputsOf as outputsAt}
 use Rattle.usart.specs.Unit.{clockOf, outputOf, requestsOf as serialRequests, resetUsart}
-use Rattle.usart.specs.Write.{numberOf as serialNumber, writeOf as serialWriteOf, vectorOf as serialVectorOf}
+use Rattle.usart.specs.Write.{writeOf as serialWriteOf, vectorOf as serialVectorOf}
+use Rattle.usart.specs.Refusing.{numberIn}
 use Rattle.usart.specs.declared.unit.Usart.{Usart}
 use Rattle.usart.specs.declared.write.Written.{Written as SerialWritten}
 use Rattle.usart.specs.declared.write.Written.the-variants.{Done as SerialDone, Refused as SerialRefused}
 use Rattle.spi.specs.Register.{vectorOf as spiVectorOf}
 use Rattle.device.specs.Address.{placeOf}
 use Rattle.device.specs.Answer.{answerOf, readAnswerOf, valueOf}
-use Rattle.device.specs.Register.{serialWritten, spiWritten, writeIn, readIn, readOf, vectorOf}
+use Rattle.device.specs.Register.{serialWritten, spiWritten, writeIn, readIn, vectorOf}
 use Rattle.device.specs.Serial.{isSerial, clocksOf, writesAt, readsAt, vectorsAt}
 use Rattle.device.specs.Unit.{rxdIn, requestsOf}
 use Rattle.device.specs.declared.address.Place.{Place}
@@ -27,14 +28,14 @@ use Rattle.device.specs.declared.answer.Written.{Written}
 use Rattle.device.specs.declared.answer.Written.the-variants.{Refused}
 use Rattle.device.specs.declared.unit.Device.{Device}
 use Rattle.device.proofs.OutputLaws.{requests-serial}
-use Rattle.device.proofs.RegisterLaws.{number-serial}
+use Rattle.device.proofs.RegisterLaws.{answer-serial}
 use Rattle.device.proofs.SerialLaws.{write-serial, read-serial, vector-serial}
 use Rattle.record.specs.Codec.{decodeOf}
 use Rattle.record.specs.declared.codec.Decoded.{Decoded}
 use Rattle.record.specs.declared.codec.Decoded.the-variants.{Accepted}
 use Rattle.record.proofs.Round.{decode-length}
 use Rattle.warpmagpie.specs.Calls.{requestsValueOn}
-use Rattle.history.specs.Call.{Call, reset, write, read, vector, run, report, recordAfter, finalRecord, Passable, serialIn, usartOf}
+use Rattle.history.specs.Call.{Call, reset, write, read, vector, run, report, recordAfter, finalRecord, Passable, deviceIn, usartOf}
 use Rattle.history.specs.Serial.{Serial as Part, event, resets, reports, serialPart, serialParts, Answer, number, value, txd, requests, serialAnswer, serialAnswers, Alike, Agree}
 use Rattle.history.proofs.StepLaws.{nextDevice, reset-done, write-on, read-on, vector-on, induct}
 use Rattle.history.proofs.ViewLaws.{runs, runs-is, ran-serial}
@@ -45,10 +46,6 @@ abbrev afterPart : Usart → Part → Usart
 afterPart u (event e) = nextOf u e
 afterPart u resets = resetUsart
 afterPart u reports = u
-
-abbrev numberIn : SerialWritten → ℕ
-numberIn (SerialDone u) = 0
-numberIn (SerialRefused r) = serialNumber r
 
 abbrev answerAt : Usart → Part → Answer
 answerAt u (event (clock rxd)) = txd (outputOf (clockOf u rxd))
@@ -79,12 +76,8 @@ last-events u [] = refl
 last-events u (e ∷ es) = last-events (nextOf u e) es
 
 -- the answers of each call
-answer-written : (d : Device) (w : SerialWritten) → answerOf (serialWritten d w) ≡ numberIn w
-answer-written d (SerialDone u) = refl
-answer-written d (SerialRefused r) = number-serial r
-
 write-at : (d : Device) (p : Place) (v : ℕ) → pick (isSerial p) (number (answerOf (writeIn d p v)) ∷ []) [] ≡ answersAt (d .usart) (map event (writesAt p v))
-write-at d (Serial r) v = ap (λ (n : ℕ). number n ∷ []) (answer-written d (serialWriteOf (d .usart) r v))
+write-at d (Serial r) v = ap (λ (n : ℕ). number n ∷ []) (answer-serial d (serialWriteOf (d .usart) r v))
 write-at d (Spi r) v = refl
 write-at d Nowhere v = refl
 
@@ -96,7 +89,7 @@ read-at d Nowhere = refl
 vector-in : (d : Device) (a b : Bool)
     → pick a (number (answerOf (pick a (serialWritten d (serialVectorOf (d .usart))) (pick b (spiWritten d (spiVectorOf (d .spi))) (Refused Unknown)))) ∷ []) []
     ≡ answersAt (d .usart) (map event (pick a (takes ∷ []) []))
-vector-in d true b = ap (λ (n : ℕ). number n ∷ []) (answer-written d (serialVectorOf (d .usart)))
+vector-in d true b = ap (λ (n : ℕ). number n ∷ []) (answer-serial d (serialVectorOf (d .usart)))
 vector-in d false b = refl
 
 vector-at : (d : Device) (n : ℕ) → pick (eqb n 0) (number (answerOf (vectorOf d n)) ∷ []) [] ≡ answersAt (d .usart) (map event (vectorsAt n))
@@ -149,7 +142,7 @@ answers-view =
 final-parts : (s : List ℕ) (d : Device) (cs : List Call) → decodeOf s ≡ Accepted d → Passable cs → usartOf (finalRecord s cs) ≡ lastOf (d .usart) (serialParts s cs)
 final-parts =
     induct (λ (s : List ℕ) (d : Device) (cs : List Call). usartOf (finalRecord s cs) ≡ lastOf (d .usart) (serialParts s cs))
-    (λ s d h. ap serialIn h)
+    (λ s d h. ap (λ (x : Decoded). deviceIn x .usart) h)
     (λ s d c cs h k.
     let rest = serialParts (recordAfter s c) cs in
     k ∙ ap (λ (u : Usart). lastOf u rest) (part-of s d h c) ∙ sym (last-append (d .usart) (serialPart s c) rest))

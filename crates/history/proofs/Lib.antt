@@ -7,3 +7,4 @@ pub mod Independence
 pub mod MarkedCases
 pub mod Witness
 pub mod Reached
+pub mod TableLaws

@@ -32,9 +32,10 @@ use Rattle.device.specs.declared.answer.Written.{Written}
 use Rattle.device.specs.declared.unit.Device.{Device}
 use Rattle.device.proofs.SerialLaws.{data-address, levels-serial}
 use Rattle.record.specs.Codec.{decodeOf}
+use Rattle.record.specs.declared.codec.Decoded.{Decoded}
 use Rattle.record.specs.declared.codec.Decoded.the-variants.{Accepted}
 use Rattle.warpmagpie.specs.Calls.{readValue, writeAnswer}
-use Rattle.history.specs.Call.{Call, reset, write, read, vector, run, report, recordAfter, Passable, serialIn, usartOf, OnlyDataCall, OnlyData, rxdBy, rxdOf}
+use Rattle.history.specs.Call.{Call, reset, write, read, vector, run, report, recordAfter, Passable, deviceIn, usartOf, OnlyDataCall, OnlyData, rxdBy, rxdOf}
 use Rattle.history.specs.Receiving.{FreeCall, Free, seenBy, takenBy, readsOf, entriesBy, entriesOf}
 use Rattle.history.proofs.StepLaws.{nextDevice, write-on, read-on, induct}
 use Rattle.history.proofs.ViewLaws.{runs, eventsOf, viewOf, runs-is, next-usart, along}
@@ -141,7 +142,7 @@ free-by s d h (read a) f = free-reads (d .usart) (placeOf a)
 free-by s d h (vector n) f = free-vectors (d .usart) n
 free-by s d h (run ls os) f =
     pick-ind (FreeAt (d .usart)) (runs d ls os) _ _
-    (λ e. subst (λ (u : Usart). FreeAt u (clocksOf ls)) (ap serialIn h) (f (runs-is s d h ls os ∙ e)))
+    (λ e. subst (λ (u : Usart). FreeAt u (clocksOf ls)) (ap (λ (x : Decoded). deviceIn x .usart) h) (f (runs-is s d h ls os ∙ e)))
     (λ _. tt)
 free-by s d h report f = tt
 
@@ -232,7 +233,7 @@ entries-by j s d h (write a v) = write-enters j (d .usart) (placeOf a) v
 entries-by j s d h (read a) = read-enters j (d .usart) (placeOf a)
 entries-by j s d h (vector n) = vector-enters j (d .usart) n
 entries-by j s d h (run ls os) =
-    ap₂ (λ (t : Bool) (u : Usart). pick t (entriesAt j u (clocksOf ls)) []) (runs-is s d h ls os) (ap serialIn h) ∙ run-enters j (d .usart) (runs d ls os) ls
+    ap₂ (λ (t : Bool) (u : Usart). pick t (entriesAt j u (clocksOf ls)) []) (runs-is s d h ls os) (ap (λ (x : Decoded). deviceIn x .usart) h) ∙ run-enters j (d .usart) (runs d ls os) ls
 entries-by j s d h report = refl
 
 pub entries-view : (s : List ℕ) (d : Device) (cs : List Call) → decodeOf s ≡ Accepted d → Passable cs → OnlyData s cs

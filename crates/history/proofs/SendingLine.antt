@@ -39,7 +39,7 @@ use Rattle.record.specs.declared.codec.Decoded.{Decoded}
 use Rattle.record.specs.declared.codec.Decoded.the-variants.{Accepted}
 use Rattle.record.proofs.Round.{decode-valid}
 use Rattle.warpmagpie.specs.Calls.{shown, runOn, outputsOn}
-use Rattle.history.specs.Call.{Call, reset, write, read, vector, run, report, Passable, serialIn, usartOf, OnlyData}
+use Rattle.history.specs.Call.{Call, reset, write, read, vector, run, report, Passable, deviceIn, usartOf, OnlyData}
 use Rattle.history.specs.Sending.{MaySend, acceptedBy, acceptedOf, txdBy, txdOf, Sends}
 use Rattle.history.proofs.StepLaws.{induct}
 use Rattle.history.proofs.ViewLaws.{runs, eventsOf, viewOf, along, final-view}
@@ -70,7 +70,7 @@ clocks-give u (l ∷ ls) = clocks-give (clockOf u (rxdIn l)) ls
 write-gives : (s : List ℕ) (d : Device) → decodeOf s ≡ Accepted d → (a v : ℕ) → acceptedBy s (write a v) ≡ acceptedAt (d .usart) (writesAt (placeOf a) v)
 write-gives s d h a v =
     let u = d .usart in
-    let e : usartOf s ≡ u = ap serialIn h in
+    let e : usartOf s ≡ u = ap (λ (x : Decoded). deviceIn x .usart) h in
     let udre : eqb (bitAt (ucsr0a u) 5) 1 ≡ isVacant (u .sender .buffer) = ap (λ (x : ℕ). eqb x 1) (status u .bit5) ∙ digit-is (isVacant (u .sender .buffer)) in
     rw (ucsr0a-is s d h, ucsr0b-is s d h, udre, txb8-bit u, e, ← data-address a) (given-in u (placeOf a) v)
 

@@ -35,7 +35,7 @@ use Rattle.record.specs.Codec.{decodeOf}
 use Rattle.record.specs.declared.codec.Decoded.{Decoded}
 use Rattle.record.specs.declared.codec.Decoded.the-variants.{Accepted}
 use Rattle.warpmagpie.specs.Calls.{runOn}
-use Rattle.history.specs.Call.{Call, reset, write, read, vector, run, report, recordAfter, finalRecord, Passable, serialIn, usartOf, OnlyDataCall, OnlyData, isRun, rxdBy, rxdOf}
+use Rattle.history.specs.Call.{Call, reset, write, read, vector, run, report, recordAfter, finalRecord, Passable, deviceIn, usartOf, OnlyDataCall, OnlyData, isRun, rxdBy, rxdOf}
 use Rattle.history.proofs.StepLaws.{nextDevice, run-on, step, induct}
 
 -- a run on a record of d is done
@@ -89,6 +89,6 @@ pub final-view : (s : List ℕ) (d : Device) (cs : List Call) → decodeOf s ≡
     → usartOf (finalRecord s cs) ≡ finalOf (d .usart) (viewOf d cs)
 final-view =
     induct (λ (s : List ℕ) (d : Device) (cs : List Call). OnlyData s cs → usartOf (finalRecord s cs) ≡ finalOf (d .usart) (viewOf d cs))
-    (λ s d h o. ap serialIn h)
+    (λ s d h o. ap (λ (x : Decoded). deviceIn x .usart) h)
     (λ s d c cs h k o.
     k (o .1) ∙ ap (λ (u : Usart). finalOf u (viewOf (nextDevice d c) cs)) (next-usart s d c (o .0)) ∙ sym (final-append (d .usart) (eventsOf d c) (viewOf (nextDevice d c) cs)))

@@ -49,10 +49,11 @@ use Rattle.device.specs.Serial.{isSerial, clocksOf, vectorsAt}
 use Rattle.device.specs.Valid.{Valid}
 use Rattle.device.specs.declared.unit.Device.{Device}
 use Rattle.record.specs.Codec.{decodeOf, recordOf}
+use Rattle.record.specs.declared.codec.Decoded.{Decoded}
 use Rattle.record.specs.declared.codec.Decoded.the-variants.{Accepted}
 use Rattle.record.proofs.Round.{decode-record}
 use Rattle.warpmagpie.specs.Calls.{runOn}
-use Rattle.history.specs.Call.{Call, reset, write, read, vector, run, report, Passable, serialIn, usartOf, OnlyDataCall, OnlyData, rxdOf}
+use Rattle.history.specs.Call.{Call, reset, write, read, vector, run, report, Passable, deviceIn, usartOf, OnlyDataCall, OnlyData, rxdOf}
 use Rattle.history.specs.Receiving.{FreeCall, Free, Hears, Delivered}
 use Rattle.history.proofs.StepLaws.{nextDevice, write-on, induct}
 use Rattle.history.proofs.ViewLaws.{runs, viewOf, runs-is}
@@ -112,7 +113,7 @@ roomy-call s d h (read a) e = tt
 roomy-call s d h (vector n) e = tt
 roomy-call s d h (run ls os) e = λ r.
     let t : runs d ls os ≡ true = sym (runs-is s d h ls os) ∙ r in
-    subst (λ (u : Usart). FreeAt u (clocksOf ls)) (sym (ap serialIn h)) (free-free (d .usart) (clocksOf ls) (rw t at e))
+    subst (λ (u : Usart). FreeAt u (clocksOf ls)) (sym (ap (λ (x : Decoded). deviceIn x .usart) h)) (free-free (d .usart) (clocksOf ls) (rw t at e))
 roomy-call s d h report e = tt
 
 roomy-all : (s : List ℕ) (d : Device) (cs : List Call) → decodeOf s ≡ Accepted d → Passable cs → roomyAll d cs ≡ true → Free s cs

@@ -9,6 +9,7 @@ use Rattle.usart.specs.declared.unit.Usart.{Usart}
 use Rattle.device.specs.Address.{placeOf}
 use Rattle.device.specs.Serial.{isSerial}
 use Rattle.device.specs.Unit.{resetDevice, rxdIn}
+use Rattle.device.specs.declared.unit.Device.{Device}
 use Rattle.record.specs.Codec.{decodeOf}
 use Rattle.record.specs.declared.codec.Decoded.{Decoded}
 use Rattle.record.specs.declared.codec.Decoded.the-variants.{Accepted, Refused}
@@ -58,13 +59,17 @@ abbrev pub Passable : List Call → Type 0
 Passable [] = Unit {0}
 Passable (c ∷ cs) = PassableCall c × Passable cs
 
--- the serial half of a record's device. A record that is refused has no device; the statements ask for one that is accepted
-abbrev pub serialIn : Decoded → Usart
-serialIn (Accepted d) = d .usart
-serialIn Refused = resetDevice .usart
+-- the device of a record. One that is refused has none; the statements do not look at it then
+abbrev pub deviceIn : Decoded → Device
+deviceIn (Accepted d) = d
+deviceIn Refused = resetDevice
 
+abbrev pub deviceOf : List ℕ → Device
+deviceOf s = deviceIn (decodeOf s)
+
+-- its serial half
 abbrev pub usartOf : List ℕ → Usart
-usartOf s = serialIn (decodeOf s)
+usartOf s = deviceOf s .usart
 
 -- no serial register but UDR0 is written, and no reset: a write of another one is not done
 abbrev pub OnlyDataCall : List ℕ → Call → Type 0

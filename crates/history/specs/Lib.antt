@@ -3,3 +3,4 @@ pub mod Receiving
 pub mod Sending
 pub mod Serial
 pub mod Marked
+pub mod Table

@@ -11,3 +11,4 @@ pub mod WiredLaws
 pub mod WiredTurns
 pub mod Witness
 pub mod OutputLaws
+pub mod RefusalLaws

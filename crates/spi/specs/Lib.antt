@@ -9,3 +9,4 @@ pub mod Valid
 pub mod Event
 pub mod Exchange
 pub mod Wired
+pub mod Refusing

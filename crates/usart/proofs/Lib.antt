@@ -12,3 +12,4 @@ pub mod ClosedLists
 pub mod Witness
 pub mod OutputLaws
 pub mod AppendLaws
+pub mod RefusalLaws

@@ -12,3 +12,4 @@ pub mod Event
 pub mod Line
 pub mod Receiving
 pub mod Sending
+pub mod Refusing

@@ -1,0 +1,196 @@
+-- Every call answers the number that document 01's table gives it, and a refusal leaves everything as it was.
+use Prim.Native.Nat.{ℕ, _/_, _<_}
+use mathlib.Core.Bool.{Bool, true, false, not, _&&_, _||_, true≢false}
+use mathlib.Core.List.{List, [], _∷_}
+use mathlib.Core.Path.{_≡_, refl, sym, ap, _∙_}
+use native.Mathlib.Omega.{arith}
+use lib.Dec.{eqb, ltb}
+use lib.ListN.{length}
+use borrow.Author.Tests.{eq-eqb, ne-eqb, eqb-true, ltb-true, ltb-false}
+use Rattle.choice.specs.Pick.{pick}
+use Rattle.choice.proofs.Picks.{split}
+use Rattle.usart.specs.Unit.{txcRequested}
+use Rattle.usart.specs.Write.{writeOf as serialWriteOf, vectorOf as serialVectorOf}
+use Rattle.usart.proofs.RefusalLaws.{write-number as serial-write, vector-number as serial-vector}
+use Rattle.spi.specs.Register.{writeOf as spiWriteOf, vectorOf as spiVectorOf}
+use Rattle.spi.specs.Unit.{isRequested}
+use Rattle.spi.proofs.RefusalLaws.{write-number as spi-write, vector-number as spi-vector}
+use Rattle.device.specs.Address.{placeOf}
+use Rattle.device.specs.Answer.{answerOf, readAnswerOf, valueOf}
+use Rattle.device.specs.Register.{serialWritten, spiWritten, writeIn, readIn, vectorOf}
+use Rattle.device.specs.Run.{ranOf, outputsOf, areLevels}
+use Rattle.device.specs.Unit.{resetDevice}
+use Rattle.device.specs.declared.address.Place.{Place}
+use Rattle.device.specs.declared.address.Place.the-variants.{Serial, Spi, Nowhere}
+use Rattle.device.specs.declared.answer.Refusal.the-variants.{Unknown, Record, Length, Level}
+use Rattle.device.specs.declared.answer.Reading.{Reading}
+use Rattle.device.specs.declared.answer.Reading.the-variants.{Done as Value, Refused as NoValue}
+use Rattle.device.specs.declared.answer.Written.{Written}
+use Rattle.device.specs.declared.answer.Written.the-variants.{Done, Refused}
+use Rattle.device.specs.declared.unit.Device.{Device}
+use Rattle.device.proofs.RegisterLaws.{answer-serial, answer-spi}
+use Rattle.record.specs.Codec.{decodeOf}
+use Rattle.record.specs.declared.codec.Decoded.{Decoded}
+use Rattle.record.specs.declared.codec.Decoded.the-variants.{Accepted, Refused as NoDevice}
+use Rattle.record.proofs.Round.{record-decode}
+use Rattle.warpmagpie.specs.Calls.{kept, shown, keptByRead, resetOn, writeOn, readOn, readAnswer, readValue, vectorOn, runOn, outputsOn, runAnswer, recordAfterRun, outputsAfterRun, requestsAnswerOn, requestsAnswer, requestsValueOn, requestsValue}
+use Rattle.history.specs.Call.{Call, reset, write, read, vector, run, report, answerTo, recordAfter, PassableCall, deviceIn}
+use Rattle.history.specs.Table.{isNoDevice, isWrongLength, isNoPlace, isNowhere, isNoVector, reservedAt, unmodelledAt, underWayAt, areUneven, hasHighLevel, isUnrequested, tableOf}
+use Rattle.history.proofs.StepLaws.{run-on}
+
+-- writes
+write-in : (d : Device) (p : Place) (v : ℕ) → v < 256
+    → answerOf (writeIn d p v) ≡ pick (isNoPlace p) 1 (pick (reservedAt d p v) 2 (pick (unmodelledAt d p v) 3 (pick (underWayAt d p v) 4 0)))
+write-in d (Serial r) v b = answer-serial d (serialWriteOf (d .usart) r v) ∙ serial-write (d .usart) r v b
+write-in d (Spi r) v b = answer-spi d (spiWriteOf (d .spi) r v) ∙ spi-write (d .spi) r v
+write-in d Nowhere v b = refl
+
+write-table : (x : Decoded) (a v : ℕ) → v < 256
+    → answerOf (writeOn x a v)
+    ≡ pick (isNoDevice x) 5 (pick (isNowhere a) 1 (pick (reservedAt (deviceIn x) (placeOf a) v) 2 (pick (unmodelledAt (deviceIn x) (placeOf a) v) 3 (pick (underWayAt (deviceIn x) (placeOf a) v) 4 0))))
+unfolding writeOn
+write-table (Accepted d) a v b = write-in d (placeOf a) v b
+write-table NoDevice a v b = refl
+
+-- reads
+read-in : (d : Device) (p : Place) → readAnswerOf (readIn d p) ≡ pick (isNoPlace p) 1 0
+read-in d (Serial r) = refl
+read-in d (Spi r) = refl
+read-in d Nowhere = refl
+
+read-table : (x : Decoded) (a : ℕ) → readAnswerOf (readOn x a) ≡ pick (isNoDevice x) 5 (pick (isNowhere a) 1 0)
+unfolding readOn
+read-table (Accepted d) a = read-in d (placeOf a)
+read-table NoDevice a = refl
+
+-- vectors: no number is both 0 and 1
+pick-not : (x y : ℕ) (t : Bool) → pick t x y ≡ pick (not t) y x
+pick-not x y true = refl
+pick-not x y false = refl
+
+pick-or : (x y : ℕ) (t : Bool) → pick t x y ≡ pick (not t || false) y x
+pick-or x y true = refl
+pick-or x y false = refl
+
+vector-by : (d : Device) (a b : Bool) → (a ≡ true → b ≡ false)
+    → answerOf (pick a (serialWritten d (serialVectorOf (d .usart))) (pick b (spiWritten d (spiVectorOf (d .spi))) (Refused Unknown)))
+    ≡ pick (not a && not b) 1 (pick (a && not (txcRequested (d .usart)) || b && not (isRequested (d .spi))) 8 0)
+vector-by d true true h = absurd (true≢false (h refl))
+vector-by d true false h = answer-serial d (serialVectorOf (d .usart)) ∙ serial-vector (d .usart) ∙ pick-or 0 8 (txcRequested (d .usart))
+vector-by d false true h = answer-spi d (spiVectorOf (d .spi)) ∙ spi-vector (d .spi) ∙ pick-not 0 8 (isRequested (d .spi))
+vector-by d false false h = refl
+
+vector-in : (d : Device) (n : ℕ) → answerOf (vectorOf d n) ≡ pick (isNoVector n) 1 (pick (isUnrequested d n) 8 0)
+unfolding vectorOf
+vector-in d n = vector-by d (eqb n 0) (eqb n 1) (λ h. ne-eqb n 1 (λ e. omega (arith, eqb-true n 0 h, e)))
+
+vector-table : (x : Decoded) (n : ℕ) → answerOf (vectorOn x n) ≡ pick (isNoDevice x) 5 (pick (isNoVector n) 1 (pick (isUnrequested (deviceIn x) n) 8 0))
+unfolding vectorOn
+vector-table (Accepted d) n = vector-in d n
+vector-table NoDevice n = refl
+
+-- runs
+low-level : (l : ℕ) → ltb l 32 ≡ eqb (l / 32) 0
+low-level l =
+    split (ltb l 32) (λ h. let k = ltb-true l 32 h in h ∙ sym (eq-eqb (l / 32) 0 (omega (arith, k))))
+    (λ h. let k = ltb-false l 32 h in h ∙ sym (ne-eqb (l / 32) 0 (λ e. omega (arith, k, e))))
+
+levels-by : (t x y : Bool) → x ≡ not y → pick t x false ≡ not (not t || y)
+levels-by true x y h = h
+levels-by false x y h = refl
+
+levels-are : (ls : List ℕ) → areLevels ls ≡ not (hasHighLevel ls)
+unfolding areLevels hasHighLevel
+levels-are [] = refl
+levels-are (l ∷ ls) = ap (λ (t : Bool). pick t (areLevels ls) false) (low-level l) ∙ levels-by (eqb (l / 32) 0) (areLevels ls) (hasHighLevel ls) (levels-are ls)
+
+run-by : (d : Device) (even low high : Bool) → low ≡ not high
+    → answerOf (pick even (pick low (Done d) (Refused Level)) (Refused Length)) ≡ pick (not even) 6 (pick high 7 0)
+run-by d true low true h = ap (λ (t : Bool). answerOf (pick t (Done d) (Refused Level))) h
+run-by d true low false h = ap (λ (t : Bool). answerOf (pick t (Done d) (Refused Level))) h
+run-by d false low high h = refl
+
+run-table : (x : Decoded) (ls os : List ℕ) → answerOf (runOn x ls os) ≡ pick (isNoDevice x) 5 (pick (areUneven ls os) 6 (pick (hasHighLevel ls) 7 0))
+unfolding runOn
+run-table (Accepted d) ls os = run-by (ranOf d ls) (eqb (length os) (length ls)) (areLevels ls) (hasHighLevel ls) (levels-are ls)
+run-table NoDevice ls os = refl
+
+-- reset and report
+reset-by : (t : Bool) → answerOf (pick t (Done resetDevice) (Refused Record)) ≡ pick (not t) 5 0
+reset-by true = refl
+reset-by false = refl
+
+reset-table : (s : List ℕ) → answerOf (resetOn s) ≡ pick (isWrongLength s) 5 0
+unfolding resetOn
+reset-table s = reset-by (eqb (length s) 64)
+
+report-table : (x : Decoded) → requestsAnswerOn x ≡ pick (isNoDevice x) 5 0
+unfolding requestsAnswerOn
+report-table (Accepted d) = refl
+report-table NoDevice = refl
+
+-- each number is given exactly when the table says
+pub numbered : (s : List ℕ) (c : Call) → PassableCall c → answerTo s c ≡ tableOf s c
+numbered s reset p = reset-table s
+numbered s (write a v) p = write-table (decodeOf s) a v p
+numbered s (read a) p = read-table (decodeOf s) a
+numbered s (vector n) p = vector-table (decodeOf s) n
+numbered s (run ls os) p = run-table (decodeOf s) ls os
+numbered s report p = report-table (decodeOf s)
+
+-- every refusal leaves the record untouched
+kept-refused : (s : List ℕ) (w : Written) → (answerOf w ≡ 0 → ⊥) → kept s w ≡ s
+kept-refused s (Done d) f = absurd (f refl)
+kept-refused s (Refused r) f = refl
+
+kept-unread : (s : List ℕ) (g : Reading) → (readAnswerOf g ≡ 0 → ⊥) → keptByRead s g ≡ s
+kept-unread s (Value v d) f = absurd (f refl)
+kept-unread s (NoValue r) f = refl
+
+pub refused-keeps : (s : List ℕ) (c : Call) → (answerTo s c ≡ 0 → ⊥) → recordAfter s c ≡ s
+refused-keeps s reset f = kept-refused s (resetOn s) f
+refused-keeps s (write a v) f = kept-refused s (writeOn (decodeOf s) a v) f
+refused-keeps s (read a) f = kept-unread s (readOn (decodeOf s) a) f
+refused-keeps s (vector n) f = kept-refused s (vectorOn (decodeOf s) n) f
+refused-keeps s (run ls os) f = kept-refused s (runOn (decodeOf s) ls os) f
+refused-keeps s report f = refl
+
+-- .. and the output slice
+shown-refused : (os new : List ℕ) (w : Written) → (answerOf w ≡ 0 → ⊥) → shown os new w ≡ os
+shown-refused os new (Done d) f = absurd (f refl)
+shown-refused os new (Refused r) f = refl
+
+pub refused-outputs : (s ls os : List ℕ) → (runAnswer s ls os ≡ 0 → ⊥) → outputsAfterRun s ls os ≡ os
+refused-outputs s ls os f = shown-refused os (outputsOn (decodeOf s) ls) (runOn (decodeOf s) ls os) f
+
+-- a refused read or report answers 0
+no-value : (g : Reading) → (readAnswerOf g ≡ 0 → ⊥) → valueOf g ≡ 0
+no-value (Value v d) f = absurd (f refl)
+no-value (NoValue r) f = refl
+
+pub refused-value : (s : List ℕ) (a : ℕ) → (readAnswer s a ≡ 0 → ⊥) → readValue s a ≡ 0
+refused-value s a f = no-value (readOn (decodeOf s) a) f
+
+no-report : (x : Decoded) → (requestsAnswerOn x ≡ 0 → ⊥) → requestsValueOn x ≡ 0
+unfolding requestsAnswerOn requestsValueOn
+no-report (Accepted d) f = absurd (f refl)
+no-report NoDevice f = refl
+
+pub refused-report : (s : List ℕ) → (requestsAnswer s ≡ 0 → ⊥) → requestsValue s ≡ 0
+refused-report s f = no-report (decodeOf s) f
+
+-- a run of no clocks is done and changes nothing
+none-run : (s : List ℕ) (d : Device) → decodeOf s ≡ Accepted d → runOn (decodeOf s) [] [] ≡ Done d
+unfolding runOn areLevels ranOf
+none-run s d h = run-on s d h [] []
+
+none-shown : (x : Decoded) → outputsOn x [] ≡ []
+unfolding outputsOn outputsOf
+none-shown (Accepted d) = refl
+none-shown NoDevice = refl
+
+pub no-clocks : (s : List ℕ) (d : Device) → decodeOf s ≡ Accepted d
+    → (runAnswer s [] [] ≡ 0) × ((recordAfterRun s [] [] ≡ s) × (outputsAfterRun s [] [] ≡ []))
+no-clocks s d h =
+    let done = none-run s d h in
+    (ap answerOf done, (ap (kept s) done ∙ record-decode s d h, ap (shown [] (outputsOn (decodeOf s) [])) done ∙ none-shown (decodeOf s)))

@@ -1,0 +1,91 @@
+-- Document 01's table of numbers, for calls on a record: for each number its condition, by itself, and for each call its numbers in the
+-- order given there, of which the first whose condition holds is the answer, else 0.
+use Prim.Native.Nat.{ℕ, _/_}
+use mathlib.Core.Bool.{Bool, true, false, not, _&&_, _||_}
+use mathlib.Core.List.{List, [], _∷_}
+use lib.Dec.{eqb}
+use lib.ListN.{length}
+use Rattle.choice.specs.Pick.{pick}
+use Rattle.usart.specs.Unit.{txcRequested}
+use Rattle.usart.specs.Refusing.{isReserved, isUnmodelled, isUnderWay as isFrameUnderWay}
+use Rattle.spi.specs.Unit.{isRequested}
+use Rattle.spi.specs.Refusing.{isUnderWay as isTransferUnderWay}
+use Rattle.device.specs.Address.{placeOf}
+use Rattle.device.specs.declared.address.Place.{Place}
+use Rattle.device.specs.declared.address.Place.the-variants.{Serial, Spi, Nowhere}
+use Rattle.device.specs.declared.unit.Device.{Device}
+use Rattle.record.specs.Codec.{decodeOf}
+use Rattle.record.specs.declared.codec.Decoded.{Decoded}
+use Rattle.record.specs.declared.codec.Decoded.the-variants.{Accepted, Refused}
+use Rattle.history.specs.Call.{Call, reset, write, read, vector, run, report, deviceOf}
+
+-- 5: record not 64 bytes, a field out of its range, or an unused byte not zero, so that it is no device's
+abbrev pub isNoDevice : Decoded → Bool
+isNoDevice (Accepted d) = false
+isNoDevice Refused = true
+
+abbrev pub isNoRecord : List ℕ → Bool
+isNoRecord s = isNoDevice (decodeOf s)
+
+-- 5, of a reset: it refuses only a wrong length
+abbrev pub isWrongLength : List ℕ → Bool
+isWrongLength s = not (eqb (length s) 64)
+
+-- 1: no such register address
+abbrev pub isNoPlace : Place → Bool
+isNoPlace (Serial r) = false
+isNoPlace (Spi r) = false
+isNoPlace Nowhere = true
+
+abbrev pub isNowhere : ℕ → Bool
+isNowhere a = isNoPlace (placeOf a)
+
+-- .. or vector
+abbrev pub isNoVector : ℕ → Bool
+isNoVector n = not (eqb n 0) && not (eqb n 1)
+
+-- 2: reserved setting, of a serial register alone
+abbrev pub reservedAt : Device → Place → ℕ → Bool
+reservedAt d (Serial r) v = isReserved (d .usart) r v
+reservedAt d (Spi r) v = false
+reservedAt d Nowhere v = false
+
+-- 3: mode not modelled, of a serial register alone
+abbrev pub unmodelledAt : Device → Place → ℕ → Bool
+unmodelledAt d (Serial r) v = isUnmodelled (d .usart) r v
+unmodelledAt d (Spi r) v = false
+unmodelledAt d Nowhere v = false
+
+-- 4: setting changed while a frame or transfer is under way
+abbrev pub underWayAt : Device → Place → ℕ → Bool
+underWayAt d (Serial r) v = isFrameUnderWay (d .usart) r v
+underWayAt d (Spi r) v = isTransferUnderWay (d .spi) r v
+underWayAt d Nowhere v = false
+
+-- 6: output slice not as long as the level slice
+abbrev pub areUneven : List ℕ → List ℕ → Bool
+areUneven ls os = not (eqb (length os) (length ls))
+
+-- 7: a level byte with bit 5, 6 or 7 set
+unfoldable pub hasHighLevel : List ℕ → Bool
+hasHighLevel [] = false
+hasHighLevel (l ∷ ls) = not (eqb (l / 32) 0) || hasHighLevel ls
+
+-- 8: vector taken without its request, TXC with TXCIE for vector 0 and SPIF with SPIE for vector 1
+abbrev pub isUnrequested : Device → ℕ → Bool
+isUnrequested d n = eqb n 0 && not (txcRequested (d .usart)) || eqb n 1 && not (isRequested (d .spi))
+
+-- order: 5, 1, 2, 3, 4; for a run 5, 6, 7; for a vector 5, 1, 8
+abbrev pub tableOf : List ℕ → Call → ℕ
+tableOf s reset = pick (isWrongLength s) 5 0
+tableOf s (write a v) =
+    pick (isNoRecord s) 5
+    (pick (isNowhere a) 1
+    (pick (reservedAt (deviceOf s) (placeOf a) v) 2
+    (pick (unmodelledAt (deviceOf s) (placeOf a) v) 3
+    (pick (underWayAt (deviceOf s) (placeOf a) v) 4
+    0))))
+tableOf s (read a) = pick (isNoRecord s) 5 (pick (isNowhere a) 1 0)
+tableOf s (vector n) = pick (isNoRecord s) 5 (pick (isNoVector n) 1 (pick (isUnrequested (deviceOf s) n) 8 0))
+tableOf s (run ls os) = pick (isNoRecord s) 5 (pick (areUneven ls os) 6 (pick (hasHighLevel ls) 7 0))
+tableOf s report = pick (isNoRecord s) 5 0
