@@ -4,13 +4,13 @@ use mathlib.Core.Bool.{Bool, true, false}
 use mathlib.Core.List.{List, [], _∷_, map}
 use mathlib.Core.Path.{_≡_, refl, sym, ap, ap₂, _∙_}
 use lib.Dec.{eqb}
-use lib.ListN.{length}
 use Rattle.choice.specs.Pick.{pick}
 use borrow.Author.Tests.{eqb-true}
 use Rattle.choice.proofs.Picks.{pick-ind, pick-split}
-use Rattle.usart.specs.Event.{vector, settled as serialSettled, finalOf, levelsOf}
+use Rattle.usart.specs.Event.{Event, write, read, vector, settled as serialSettled, finalOf, levelsOf}
 use Rattle.usart.specs.Sending.{outputsOf as serialOutputs}
 use Rattle.usart.specs.Write.{writeOf as serialWriteOf, vectorOf as serialVectorOf}
+use Rattle.usart.specs.declared.write.Register.{Register}
 use Rattle.usart.specs.declared.write.Register.the-variants.{Udr0}
 use Rattle.usart.specs.declared.write.Written.{Written as SerialWritten}
 use Rattle.usart.specs.declared.write.Written.the-variants.{Done as SerialDone, Refused as SerialRefused}
@@ -24,7 +24,6 @@ use Rattle.device.specs.Unit.{rxdIn, clockOf}
 use Rattle.device.specs.Register.{serialWritten, spiWritten, writeIn, writeOf, readIn, readOf, vectorOf}
 use Rattle.device.specs.Run.{ranOf, outputsOf}
 use Rattle.device.specs.Serial.{isData, clocksOf, writesAt, readsAt, vectorsAt}
-use Rattle.device.specs.declared.answer.Written.{Written}
 use Rattle.device.specs.declared.answer.Written.the-variants.{Refused}
 use Rattle.device.specs.declared.answer.Refusal.the-variants.{Unknown}
 use Rattle.device.specs.declared.address.Place.{Place}
@@ -103,3 +102,18 @@ outputs-serial d (l ∷ ls) = ap₂ (_∷_) (output-serial (clockOf d l) l) (out
 pub levels-serial : (ls : List ℕ) → levelsOf (clocksOf ls) ≡ map rxdIn ls
 levels-serial [] = refl
 levels-serial (l ∷ ls) = ap (_∷_ (rxdIn l)) (levels-serial ls)
+
+-- what holds of no event and of any access of a serial register holds of a call's events
+pub writes-are : (P : List Event → Type 0) (v : ℕ) → P [] → ((r : Register) → P (write r v ∷ [])) → (p : Place) → P (writesAt p v)
+writes-are P v none one (Serial r) = one r
+writes-are P v none one (Spi r) = none
+writes-are P v none one Nowhere = none
+
+pub reads-are : (P : List Event → Type 0) → P [] → ((r : Register) → P (read r ∷ [])) → (p : Place) → P (readsAt p)
+reads-are P none one (Serial r) = one r
+reads-are P none one (Spi r) = none
+reads-are P none one Nowhere = none
+
+pub vectors-are : (P : List Event → Type 0) → P [] → P (vector ∷ []) → (n : ℕ) → P (vectorsAt n)
+unfolding vectorsAt
+vectors-are P none one n = pick-ind P (eqb n 0) (vector ∷ []) [] (λ _. one) (λ _. none)

@@ -12,8 +12,6 @@ use Rattle.usart.specs.Unit.{clockOf, outputOf, requestsOf as serialRequests, r
 use Rattle.usart.specs.Write.{writeOf as serialWriteOf, vectorOf as serialVectorOf}
 use Rattle.usart.specs.Refusing.{numberIn}
 use Rattle.usart.specs.declared.unit.Usart.{Usart}
-use Rattle.usart.specs.declared.write.Written.{Written as SerialWritten}
-use Rattle.usart.specs.declared.write.Written.the-variants.{Done as SerialDone, Refused as SerialRefused}
 use Rattle.spi.specs.Register.{vectorOf as spiVectorOf}
 use Rattle.device.specs.Address.{placeOf}
 use Rattle.device.specs.Answer.{answerOf, readAnswerOf, valueOf}

@@ -1,15 +1,13 @@
 -- M1 to M10.
-use Prim.Native.Nat.{ℕ, _+_, _*_, _≤_}
+use Prim.Native.Nat.{_≤_}
 use mathlib.Core.Bool.{Bool, true, false}
-use mathlib.Core.List.{List, [], _∷_, _++_}
-use mathlib.Core.Path.{_≡_, refl, ap, _∙_}
+use mathlib.Core.Path.{refl}
 use native.Mathlib.Omega.{arith}
 use lib.Dec.{lit≤}
 use Rattle.choice.specs.Pick.{pick}
-use Rattle.frame.specs.Format.{dataBits, parityBits, lastBit}
+use Rattle.frame.specs.Format.{dataBits, parityBits}
 use Rattle.frame.specs.Parity.{sumOfBits}
 use Rattle.frame.specs.Word.{frameBit, parityError}
-use Rattle.frame.specs.declared.format.Format.{Format}
 use Rattle.frame.specs.declared.format.Parity.{Parity}
 use Rattle.frame.specs.declared.format.Parity.the-variants.{Off, Even, Odd}
 use Rattle.frame.specs.declared.format.Size.{Size}
@@ -19,18 +17,15 @@ use Rattle.usart.specs.Line.{lineLevel}
 use Rattle.usart.specs.Receiver.{listenedOf, enabledOf}
 use Rattle.usart.specs.Sampler.{idleOf, castOf, nextBitOf, shiftedOf, decidedOf, votedOf, sampledOf, samplerOf}
 use Rattle.usart.specs.Sender.{steppedOf}
-use Rattle.usart.specs.Settings.{codeOf, sizeOf}
+use Rattle.usart.specs.Settings.{sizeOf}
 use Rattle.usart.specs.Unit.{isBusy, clockOf, isDriven, outputOf}
-use Rattle.usart.specs.Write.{formattedOf, clearedOf, writeA, isReservedC, sizedC, writeC, transmittedOf}
+use Rattle.usart.specs.Write.{formattedOf, clearedOf, writeA, isReservedC, writeC, transmittedOf}
 use Rattle.spi.specs.Unit.{outputOf as spiOutput}
 use Rattle.spi.specs.Clock.{steppedOf as spiStepped}
 use Rattle.spi.proofs.Transfers.{m7}
 use Rattle.device.specs.Address.{placeOf}
-use Rattle.device.specs.Answer.{answerOf}
-use Rattle.device.specs.Register.{writeOf}
 use Rattle.device.specs.Run.{ranOf}
-use Rattle.device.specs.declared.unit.Device.{Device}
-use Rattle.history.specs.Marked.{bitClocks, M1, M2, M4, M6, M7, M8, M9, M10, sending, statusBits, zeros, fourFrames, lineFrom, listening, heard, overrun, cases, Each}
+use Rattle.history.specs.Marked.{M1, M2, M4, M6, M8, M9, M10, sending, statusBits, zeros, fourFrames, lineFrom, listening, heard, overrun, cases, Each}
 
 m1 : M1
 m1 f e = rw e

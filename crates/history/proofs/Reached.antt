@@ -1,6 +1,6 @@
 -- Every device reached from reset has a record: whatever calls follow a reset, their record is accepted, and its device is valid.
 use Prim.Native.Nat.{ℕ}
-use mathlib.Core.List.{List, [], _∷_}
+use mathlib.Core.List.{List}
 use mathlib.Core.Path.{_≡_, ap, _∙_}
 use lib.ListN.{length}
 use Rattle.device.specs.Unit.{resetDevice}
@@ -13,7 +13,7 @@ use Rattle.record.specs.declared.codec.Decoded.the-variants.{Accepted}
 use Rattle.record.proofs.Round.{decode-record, decode-valid}
 use Rattle.warpmagpie.specs.Calls.{kept, recordAfterReset}
 use Rattle.history.specs.Call.{Call, finalRecord, Passable}
-use Rattle.history.proofs.StepLaws.{nextDevice, reset-done, induct}
+use Rattle.history.proofs.StepLaws.{reset-done, induct}
 
 -- the record is that of a valid device
 abbrev pub HasDevice : List ℕ → Type 0

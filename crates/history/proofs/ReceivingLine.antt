@@ -3,7 +3,7 @@
 use Prim.Native.Nat.{ℕ}
 use mathlib.Core.Bool.{Bool}
 use mathlib.Core.List.{List, _++_, map}
-use mathlib.Core.Path.{_≡_, sym, ap, ap₂, subst, _∙_}
+use mathlib.Core.Path.{sym, ap₂, subst, _∙_}
 use lib.ListN.{length}
 use Rattle.frame.specs.Format.{wordBits}
 use Rattle.usart.specs.Line.{Sent, lineLevel, EndedBy, Shows}

@@ -9,61 +9,44 @@ use lib.ListN.{length}
 use borrow.Author.Tests.{eq-eqb}
 use Rattle.choice.specs.Pick.{pick}
 use Rattle.choice.proofs.Picks.{pick-ind}
-use Rattle.usart.specs.Event.{Event, finalOf, isRefused, isUdr0, levelsOf, OnlyData as OnlyDataAt}
+use Rattle.usart.specs.Event.{Event, isRefused, isUdr0, levelsOf, OnlyData as OnlyDataAt}
 use Rattle.usart.specs.Read.{readOf as serialReadOf}
 use Rattle.usart.specs.Receiving.{bitAt, Seen, Free as FreeAt, seenBy as seenAt, readsOf as readsIn, entriesOf as entriesAt}
 use Rattle.usart.specs.Unit.{clockOf}
 use Rattle.usart.specs.Write.{writeOf as serialWriteOf}
 use Rattle.usart.specs.declared.unit.Usart.{Usart}
-use Rattle.usart.specs.declared.write.Register.{Register}
 use Rattle.usart.specs.declared.write.Register.the-variants.{Ucsr0a, Ucsr0b, Udr0}
 use Rattle.usart.specs.declared.write.Written.{Written as SerialWritten}
 use Rattle.usart.specs.declared.write.Written.the-variants.{Done as SerialDone, Refused as SerialRefused}
 use Rattle.usart.proofs.AppendLaws.{levels-append, only-append, free-append, reads-append, entries-append}
 use Rattle.device.specs.Address.{placeOf}
 use Rattle.device.specs.Answer.{answerOf, valueOf}
-use Rattle.device.specs.Register.{serialWritten, writeIn, writeOf, readOf}
-use Rattle.device.specs.Serial.{isSerial, isData, clocksOf, writesAt, readsAt, vectorsAt}
+use Rattle.device.specs.Register.{serialWritten, writeIn}
+use Rattle.device.specs.Serial.{isSerial, isData, clocksOf, writesAt, readsAt}
 use Rattle.device.specs.Unit.{rxdIn}
 use Rattle.device.specs.declared.address.Place.{Place}
 use Rattle.device.specs.declared.address.Place.the-variants.{Serial, Spi, Nowhere}
-use Rattle.device.specs.declared.answer.Reading.{Reading}
-use Rattle.device.specs.declared.answer.Written.{Written}
 use Rattle.device.specs.declared.unit.Device.{Device}
-use Rattle.device.proofs.SerialLaws.{data-address, levels-serial}
+use Rattle.device.proofs.SerialLaws.{data-address, levels-serial, writes-are, reads-are, vectors-are}
 use Rattle.record.specs.Codec.{decodeOf}
 use Rattle.record.specs.declared.codec.Decoded.{Decoded}
 use Rattle.record.specs.declared.codec.Decoded.the-variants.{Accepted}
-use Rattle.warpmagpie.specs.Calls.{readValue, writeAnswer}
-use Rattle.history.specs.Call.{Call, reset, write, read, vector, run, report, recordAfter, Passable, deviceIn, usartOf, OnlyDataCall, OnlyData, rxdBy, rxdOf}
+use Rattle.warpmagpie.specs.Calls.{readValue}
+use Rattle.history.specs.Call.{Call, reset, write, read, vector, run, report, Passable, deviceIn, OnlyDataCall, OnlyData, rxdBy, rxdOf}
 use Rattle.history.specs.Receiving.{FreeCall, Free, seenBy, takenBy, readsOf, entriesBy, entriesOf}
 use Rattle.history.proofs.StepLaws.{nextDevice, write-on, read-on, induct}
 use Rattle.history.proofs.ViewLaws.{runs, eventsOf, viewOf, runs-is, next-usart, along}
 
 -- only a run shows levels
-write-levels : (p : Place) (v : ℕ) → [] ≡ levelsOf (writesAt p v)
-write-levels (Serial r) v = refl
-write-levels (Spi r) v = refl
-write-levels Nowhere v = refl
-
-read-levels : (p : Place) → [] ≡ levelsOf (readsAt p)
-read-levels (Serial r) = refl
-read-levels (Spi r) = refl
-read-levels Nowhere = refl
-
-vector-levels : (n : ℕ) → [] ≡ levelsOf (vectorsAt n)
-unfolding vectorsAt
-vector-levels n = pick-ind (λ (es : List Event). [] ≡ levelsOf es) (eqb n 0) _ _ (λ _. refl) (λ _. refl)
-
 run-levels : (t : Bool) (ls : List ℕ) → pick t (map rxdIn ls) [] ≡ levelsOf (pick t (clocksOf ls) [])
 run-levels true ls = sym (levels-serial ls)
 run-levels false ls = refl
 
 pub rxd-by : (s : List ℕ) (d : Device) → decodeOf s ≡ Accepted d → (c : Call) → rxdBy s c ≡ levelsOf (eventsOf d c)
 rxd-by s d h reset = refl
-rxd-by s d h (write a v) = write-levels (placeOf a) v
-rxd-by s d h (read a) = read-levels (placeOf a)
-rxd-by s d h (vector n) = vector-levels n
+rxd-by s d h (write a v) = writes-are (λ (es : List Event). [] ≡ levelsOf es) v refl (λ r. refl) (placeOf a)
+rxd-by s d h (read a) = reads-are (λ (es : List Event). [] ≡ levelsOf es) refl (λ r. refl) (placeOf a)
+rxd-by s d h (vector n) = vectors-are (λ (es : List Event). [] ≡ levelsOf es) refl refl n
 rxd-by s d h (run ls os) = ap (λ (t : Bool). pick t (map rxdIn ls) []) (runs-is s d h ls os) ∙ run-levels (runs d ls os) ls
 rxd-by s d h report = refl
 
@@ -91,24 +74,15 @@ only-in d a v (Serial r) e o = (
 only-in d a v (Spi r) e o = tt
 only-in d a v Nowhere e o = tt
 
-only-reads : (u : Usart) (p : Place) → OnlyDataAt u (readsAt p)
-only-reads u (Serial r) = tt
-only-reads u (Spi r) = tt
-only-reads u Nowhere = tt
-
 only-clocks : (u : Usart) (ls : List ℕ) → OnlyDataAt u (clocksOf ls)
 only-clocks u [] = tt
 only-clocks u (l ∷ ls) = only-clocks (clockOf u (rxdIn l)) ls
 
-only-vectors : (u : Usart) (n : ℕ) → OnlyDataAt u (vectorsAt n)
-unfolding vectorsAt
-only-vectors u n = pick-ind (OnlyDataAt u) (eqb n 0) _ _ (λ _. tt) (λ _. tt)
-
 only-by : (s : List ℕ) (d : Device) → decodeOf s ≡ Accepted d → (c : Call) → OnlyDataCall s c → OnlyDataAt (d .usart) (eventsOf d c)
 only-by s d h reset o = absurd o
 only-by s d h (write a v) o = only-in d a v (placeOf a) refl (λ z. o (ap answerOf (write-on s d h a v) ∙ z))
-only-by s d h (read a) o = only-reads (d .usart) (placeOf a)
-only-by s d h (vector n) o = only-vectors (d .usart) n
+only-by s d h (read a) o = reads-are (OnlyDataAt (d .usart)) tt (λ r. tt) (placeOf a)
+only-by s d h (vector n) o = vectors-are (OnlyDataAt (d .usart)) tt tt n
 only-by s d h (run ls os) o = pick-ind (OnlyDataAt (d .usart)) (runs d ls os) _ _ (λ _. only-clocks (d .usart) ls) (λ _. tt)
 only-by s d h report o = tt
 
@@ -121,25 +95,11 @@ only-view =
     (subst (λ (u : Usart). OnlyDataAt u (viewOf (nextDevice d c) cs)) (next-usart s d c (o .0)) (k (o .1))))
 
 -- only clocks complete frames
-free-writes : (u : Usart) (p : Place) (v : ℕ) → FreeAt u (writesAt p v)
-free-writes u (Serial r) v = tt
-free-writes u (Spi r) v = tt
-free-writes u Nowhere v = tt
-
-free-reads : (u : Usart) (p : Place) → FreeAt u (readsAt p)
-free-reads u (Serial r) = tt
-free-reads u (Spi r) = tt
-free-reads u Nowhere = tt
-
-free-vectors : (u : Usart) (n : ℕ) → FreeAt u (vectorsAt n)
-unfolding vectorsAt
-free-vectors u n = pick-ind (FreeAt u) (eqb n 0) _ _ (λ _. tt) (λ _. tt)
-
 free-by : (s : List ℕ) (d : Device) → decodeOf s ≡ Accepted d → (c : Call) → FreeCall s c → FreeAt (d .usart) (eventsOf d c)
 free-by s d h reset f = tt
-free-by s d h (write a v) f = free-writes (d .usart) (placeOf a) v
-free-by s d h (read a) f = free-reads (d .usart) (placeOf a)
-free-by s d h (vector n) f = free-vectors (d .usart) n
+free-by s d h (write a v) f = writes-are (FreeAt (d .usart)) v tt (λ r. tt) (placeOf a)
+free-by s d h (read a) f = reads-are (FreeAt (d .usart)) tt (λ r. tt) (placeOf a)
+free-by s d h (vector n) f = vectors-are (FreeAt (d .usart)) tt tt n
 free-by s d h (run ls os) f =
     pick-ind (FreeAt (d .usart)) (runs d ls os) _ _
     (λ e. subst (λ (u : Usart). FreeAt u (clocksOf ls)) (ap (λ (x : Decoded). deviceIn x .usart) h) (f (runs-is s d h ls os ∙ e)))
@@ -180,24 +140,15 @@ taken-in u (Serial r) = sym (append-nil (pick (isUdr0 r) (seenIf u) []))
 taken-in u (Spi r) = refl
 taken-in u Nowhere = refl
 
-write-takes : (u : Usart) (p : Place) (v : ℕ) → [] ≡ readsIn u (writesAt p v)
-write-takes u (Serial r) v = refl
-write-takes u (Spi r) v = refl
-write-takes u Nowhere v = refl
-
-vector-takes : (u : Usart) (n : ℕ) → [] ≡ readsIn u (vectorsAt n)
-unfolding vectorsAt
-vector-takes u n = pick-ind (λ (es : List Event). [] ≡ readsIn u es) (eqb n 0) _ _ (λ _. refl) (λ _. refl)
-
 clocks-take : (u : Usart) (ls : List ℕ) → [] ≡ readsIn u (clocksOf ls)
 clocks-take u [] = refl
 clocks-take u (l ∷ ls) = clocks-take (clockOf u (rxdIn l)) ls
 
 taken-by : (s : List ℕ) (d : Device) → decodeOf s ≡ Accepted d → (c : Call) → takenBy s c ≡ readsIn (d .usart) (eventsOf d c)
 taken-by s d h reset = refl
-taken-by s d h (write a v) = write-takes (d .usart) (placeOf a) v
+taken-by s d h (write a v) = writes-are (λ (es : List Event). [] ≡ readsIn (d .usart) es) v refl (λ r. refl) (placeOf a)
 taken-by s d h (read a) = rw (seen-is s d h, ucsr0a-is s d h, ← data-address a) (taken-in (d .usart) (placeOf a))
-taken-by s d h (vector n) = vector-takes (d .usart) n
+taken-by s d h (vector n) = vectors-are (λ (es : List Event). [] ≡ readsIn (d .usart) es) refl refl n
 taken-by s d h (run ls os) =
     pick-ind (λ (es : List Event). [] ≡ readsIn (d .usart) es) (runs d ls os) _ _ (λ _. clocks-take (d .usart) ls) (λ _. refl)
 taken-by s d h report = refl
@@ -209,29 +160,15 @@ reads-view =
     (λ s d c cs h k o. along readsIn reads-append s d c cs (o .0) (taken-by s d h c) (k (o .1)))
 
 -- only at a clock does a frame enter
-write-enters : (j : ℕ) (u : Usart) (p : Place) (v : ℕ) → [] ≡ entriesAt j u (writesAt p v)
-write-enters j u (Serial r) v = refl
-write-enters j u (Spi r) v = refl
-write-enters j u Nowhere v = refl
-
-read-enters : (j : ℕ) (u : Usart) (p : Place) → [] ≡ entriesAt j u (readsAt p)
-read-enters j u (Serial r) = refl
-read-enters j u (Spi r) = refl
-read-enters j u Nowhere = refl
-
-vector-enters : (j : ℕ) (u : Usart) (n : ℕ) → [] ≡ entriesAt j u (vectorsAt n)
-unfolding vectorsAt
-vector-enters j u n = pick-ind (λ (es : List Event). [] ≡ entriesAt j u es) (eqb n 0) _ _ (λ _. refl) (λ _. refl)
-
 run-enters : (j : ℕ) (u : Usart) (t : Bool) (ls : List ℕ) → pick t (entriesAt j u (clocksOf ls)) [] ≡ entriesAt j u (pick t (clocksOf ls) [])
 run-enters j u true ls = refl
 run-enters j u false ls = refl
 
 entries-by : (j : ℕ) (s : List ℕ) (d : Device) → decodeOf s ≡ Accepted d → (c : Call) → entriesBy j s c ≡ entriesAt j (d .usart) (eventsOf d c)
 entries-by j s d h reset = refl
-entries-by j s d h (write a v) = write-enters j (d .usart) (placeOf a) v
-entries-by j s d h (read a) = read-enters j (d .usart) (placeOf a)
-entries-by j s d h (vector n) = vector-enters j (d .usart) n
+entries-by j s d h (write a v) = writes-are (λ (es : List Event). [] ≡ entriesAt j (d .usart) es) v refl (λ r. refl) (placeOf a)
+entries-by j s d h (read a) = reads-are (λ (es : List Event). [] ≡ entriesAt j (d .usart) es) refl (λ r. refl) (placeOf a)
+entries-by j s d h (vector n) = vectors-are (λ (es : List Event). [] ≡ entriesAt j (d .usart) es) refl refl n
 entries-by j s d h (run ls os) =
     ap₂ (λ (t : Bool) (u : Usart). pick t (entriesAt j u (clocksOf ls)) []) (runs-is s d h ls os) (ap (λ (x : Decoded). deviceIn x .usart) h) ∙ run-enters j (d .usart) (runs d ls os) ls
 entries-by j s d h report = refl

@@ -2,7 +2,7 @@
 use Prim.Native.Nat.{ℕ, _+_, _*_}
 use mathlib.Core.Bool.{Bool, true, false}
 use mathlib.Core.List.{List, [], _∷_, _++_, map, append-nil}
-use mathlib.Core.Path.{_≡_, refl, sym, ap, ap₂, subst, _∙_}
+use mathlib.Core.Path.{_≡_, refl, sym, ap, subst, _∙_}
 use lib.Dec.{eqb}
 use lib.ListN.{length}
 use Rattle.choice.specs.Pick.{pick, digit}
@@ -12,10 +12,10 @@ use Rattle.frame.specs.Format.{samples}
 use Rattle.frame.specs.Word.{dataOf}
 use Rattle.usart.specs.Event.{Event, isUdr0}
 use Rattle.usart.specs.Line.{lineLevel}
-use Rattle.usart.specs.Read.{ucsr0a, ucsr0b}
+use Rattle.usart.specs.Read.{ucsr0a}
 use Rattle.usart.specs.Receiving.{bitAt}
 use Rattle.usart.specs.Sender.{isVacant}
-use Rattle.usart.specs.Sending.{waiting, Drives, dataIn, outputsOf as outputsAt, acceptedOf as acceptedAt, MaySend as MaySendAt, Sends as SendsAt}
+use Rattle.usart.specs.Sending.{waiting, Drives, dataIn, outputsOf as outputsAt, acceptedOf as acceptedAt, Sends as SendsAt}
 use Rattle.usart.specs.Unit.{clockOf}
 use Rattle.usart.specs.declared.unit.Usart.{Usart}
 use Rattle.usart.proofs.AppendLaws.{outputs-append, accepted-append}
@@ -25,7 +25,7 @@ use Rattle.device.specs.Address.{placeOf}
 use Rattle.device.specs.Answer.{answerOf}
 use Rattle.device.specs.Output.{txdBits}
 use Rattle.device.specs.Run.{ranOf, outputsOf, areLevels}
-use Rattle.device.specs.Serial.{isData, clocksOf, writesAt, readsAt, vectorsAt}
+use Rattle.device.specs.Serial.{isData, clocksOf, writesAt}
 use Rattle.device.specs.Unit.{rxdIn}
 use Rattle.device.specs.declared.address.Place.{Place}
 use Rattle.device.specs.declared.address.Place.the-variants.{Serial, Spi, Nowhere}
@@ -33,7 +33,7 @@ use Rattle.device.specs.declared.answer.Refusal.the-variants.{Length, Level}
 use Rattle.device.specs.declared.answer.Written.{Written}
 use Rattle.device.specs.declared.answer.Written.the-variants.{Done, Refused}
 use Rattle.device.specs.declared.unit.Device.{Device}
-use Rattle.device.proofs.SerialLaws.{data-address, outputs-serial}
+use Rattle.device.proofs.SerialLaws.{data-address, outputs-serial, writes-are, reads-are, vectors-are}
 use Rattle.record.specs.Codec.{decodeOf}
 use Rattle.record.specs.declared.codec.Decoded.{Decoded}
 use Rattle.record.specs.declared.codec.Decoded.the-variants.{Accepted}
@@ -54,15 +54,6 @@ given-in u (Serial r) v = sym (append-nil (pick (isUdr0 r) (given u v) []))
 given-in u (Spi r) v = refl
 given-in u Nowhere v = refl
 
-read-gives : (u : Usart) (p : Place) → [] ≡ acceptedAt u (readsAt p)
-read-gives u (Serial r) = refl
-read-gives u (Spi r) = refl
-read-gives u Nowhere = refl
-
-vector-gives : (u : Usart) (n : ℕ) → [] ≡ acceptedAt u (vectorsAt n)
-unfolding vectorsAt
-vector-gives u n = pick-ind (λ (es : List Event). [] ≡ acceptedAt u es) (eqb n 0) _ _ (λ _. refl) (λ _. refl)
-
 clocks-give : (u : Usart) (ls : List ℕ) → [] ≡ acceptedAt u (clocksOf ls)
 clocks-give u [] = refl
 clocks-give u (l ∷ ls) = clocks-give (clockOf u (rxdIn l)) ls
@@ -77,8 +68,8 @@ write-gives s d h a v =
 accepted-by : (s : List ℕ) (d : Device) → decodeOf s ≡ Accepted d → (c : Call) → acceptedBy s c ≡ acceptedAt (d .usart) (eventsOf d c)
 accepted-by s d h reset = refl
 accepted-by s d h (write a v) = write-gives s d h a v
-accepted-by s d h (read a) = read-gives (d .usart) (placeOf a)
-accepted-by s d h (vector n) = vector-gives (d .usart) n
+accepted-by s d h (read a) = reads-are (λ (es : List Event). [] ≡ acceptedAt (d .usart) es) refl (λ r. refl) (placeOf a)
+accepted-by s d h (vector n) = vectors-are (λ (es : List Event). [] ≡ acceptedAt (d .usart) es) refl refl n
 accepted-by s d h (run ls os) =
     pick-ind (λ (es : List Event). [] ≡ acceptedAt (d .usart) es) (runs d ls os) _ _ (λ _. clocks-give (d .usart) ls) (λ _. refl)
 accepted-by s d h report = refl
@@ -90,20 +81,6 @@ accepted-view =
     (λ s d c cs h k o. along acceptedAt accepted-append s d c cs (o .0) (accepted-by s d h c) (k (o .1)))
 
 -- only a run shows outputs
-write-shows : (u : Usart) (p : Place) (v : ℕ) → [] ≡ outputsAt u (writesAt p v)
-write-shows u (Serial r) v = refl
-write-shows u (Spi r) v = refl
-write-shows u Nowhere v = refl
-
-read-shows : (u : Usart) (p : Place) → [] ≡ outputsAt u (readsAt p)
-read-shows u (Serial r) = refl
-read-shows u (Spi r) = refl
-read-shows u Nowhere = refl
-
-vector-shows : (u : Usart) (n : ℕ) → [] ≡ outputsAt u (vectorsAt n)
-unfolding vectorsAt
-vector-shows u n = pick-ind (λ (es : List Event). [] ≡ outputsAt u es) (eqb n 0) _ _ (λ _. refl) (λ _. refl)
-
 shown-in : (d : Device) (a b : Bool) (ls os : List ℕ) (w : Written) → w ≡ pick a (pick b (Done (ranOf d ls)) (Refused Level)) (Refused Length)
     → pick (eqb (answerOf w) 0) (map txdBits (shown os (outputsOf d ls) w)) [] ≡ outputsAt (d .usart) (pick (eqb (answerOf w) 0) (clocksOf ls) [])
 shown-in d true true ls os w e = rw e (outputs-serial d ls)
@@ -117,9 +94,9 @@ run-shows d ls os = shown-in d (eqb (length os) (length ls)) (areLevels ls) ls o
 
 pub txd-by : (s : List ℕ) (d : Device) → decodeOf s ≡ Accepted d → (c : Call) → txdBy s c ≡ outputsAt (d .usart) (eventsOf d c)
 txd-by s d h reset = refl
-txd-by s d h (write a v) = write-shows (d .usart) (placeOf a) v
-txd-by s d h (read a) = read-shows (d .usart) (placeOf a)
-txd-by s d h (vector n) = vector-shows (d .usart) n
+txd-by s d h (write a v) = writes-are (λ (es : List Event). [] ≡ outputsAt (d .usart) es) v refl (λ r. refl) (placeOf a)
+txd-by s d h (read a) = reads-are (λ (es : List Event). [] ≡ outputsAt (d .usart) es) refl (λ r. refl) (placeOf a)
+txd-by s d h (vector n) = vectors-are (λ (es : List Event). [] ≡ outputsAt (d .usart) es) refl refl n
 txd-by s d h (run ls os) =
     ap (λ (x : Decoded). pick (eqb (answerOf (runOn x ls os)) 0) (map txdBits (shown os (outputsOn x ls) (runOn x ls os))) []) h ∙ run-shows d ls os
 txd-by s d h report = refl

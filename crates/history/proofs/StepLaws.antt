@@ -1,8 +1,8 @@
 -- One call on an accepted record, and induction over a list of calls.
-use Prim.Native.Nat.{ℕ, _<_}
+use Prim.Native.Nat.{ℕ}
 use mathlib.Core.Bool.{Bool, true, false}
 use mathlib.Core.List.{List, [], _∷_}
-use mathlib.Core.Path.{_≡_, refl, sym, ap, _∙_}
+use mathlib.Core.Path.{_≡_, ap, _∙_}
 use lib.Dec.{eqb}
 use lib.ListN.{length}
 use borrow.Author.Tests.{eq-eqb}
@@ -19,7 +19,7 @@ use Rattle.device.specs.declared.answer.Reading.{Reading}
 use Rattle.device.specs.declared.answer.Reading.the-variants.{Done as Value, Refused as NoValue}
 use Rattle.device.specs.declared.unit.Device.{Device}
 use Rattle.device.proofs.ValidLaws.{valid-reset, valid-write, valid-read, valid-vector, valid-run}
-use Rattle.record.specs.Codec.{decodeOf, recordOf}
+use Rattle.record.specs.Codec.{decodeOf}
 use Rattle.record.specs.declared.codec.Decoded.{Decoded}
 use Rattle.record.specs.declared.codec.Decoded.the-variants.{Accepted}
 use Rattle.record.proofs.Round.{decode-record, decode-valid, decode-length}

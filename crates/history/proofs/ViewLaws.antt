@@ -1,42 +1,29 @@
 -- The serial view of a history: the serial unit's events. What the statements say of calls on a record is what the unit's own say of them.
-use Prim.Native.Nat.{ℕ, _+_, _*_, _<_}
+use Prim.Native.Nat.{ℕ, _+_}
 use mathlib.Core.Bool.{Bool, true, false}
-use mathlib.Core.List.{List, [], _∷_, _++_, map, append-nil}
-use mathlib.Core.Path.{_≡_, refl, sym, ap, ap₂, subst, _∙_}
-use native.Mathlib.Omega.{arith}
+use mathlib.Core.List.{List, [], _∷_, _++_}
+use mathlib.Core.Path.{_≡_, refl, sym, ap, ap₂, _∙_}
 use lib.Dec.{eqb}
 use lib.ListN.{length}
-use borrow.Author.Tests.{eqb-true, eq-eqb}
 use Rattle.choice.specs.Pick.{pick}
-use Rattle.choice.proofs.Picks.{split}
-use Rattle.usart.specs.Event.{Event, finalOf, isRefused, isUdr0, levelsOf, OnlyData as OnlyDataAt}
-use Rattle.usart.specs.Receiving.{Seen, Free as FreeAt, seenBy as seenAt, readsOf as readsIn, entriesOf as entriesAt}
-use Rattle.usart.specs.Sending.{outputsOf as outputsAt, acceptedOf as acceptedAt}
-use Rattle.usart.specs.Write.{writeOf as serialWriteOf}
+use Rattle.usart.specs.Event.{Event, finalOf}
 use Rattle.usart.specs.declared.unit.Usart.{Usart}
-use Rattle.usart.specs.declared.write.Register.{Register}
-use Rattle.usart.specs.declared.write.Written.{Written as SerialWritten}
-use Rattle.usart.specs.declared.write.Written.the-variants.{Done as SerialDone, Refused as SerialRefused}
-use Rattle.usart.proofs.AppendLaws.{final-append, levels-append, only-append, free-append, reads-append, entries-append, outputs-append, accepted-append}
+use Rattle.usart.proofs.AppendLaws.{final-append}
 use Rattle.device.specs.Address.{placeOf}
 use Rattle.device.specs.Answer.{answerOf, settled}
-use Rattle.device.specs.Register.{serialWritten}
 use Rattle.device.specs.Run.{ranOf, areLevels}
-use Rattle.device.specs.Serial.{isSerial, isData, clocksOf, writesAt, readsAt, vectorsAt}
-use Rattle.device.specs.Unit.{rxdIn}
-use Rattle.device.specs.declared.address.Place.{Place}
-use Rattle.device.specs.declared.address.Place.the-variants.{Serial, Spi, Nowhere}
+use Rattle.device.specs.Serial.{clocksOf, writesAt, readsAt, vectorsAt}
 use Rattle.device.specs.declared.answer.Refusal.the-variants.{Length, Level}
 use Rattle.device.specs.declared.answer.Written.{Written}
 use Rattle.device.specs.declared.answer.Written.the-variants.{Done, Refused}
 use Rattle.device.specs.declared.unit.Device.{Device}
-use Rattle.device.proofs.SerialLaws.{data-address, write-serial, read-serial, vector-serial, run-serial, levels-serial, outputs-serial}
+use Rattle.device.proofs.SerialLaws.{write-serial, read-serial, vector-serial, run-serial}
 use Rattle.record.specs.Codec.{decodeOf}
 use Rattle.record.specs.declared.codec.Decoded.{Decoded}
 use Rattle.record.specs.declared.codec.Decoded.the-variants.{Accepted}
 use Rattle.warpmagpie.specs.Calls.{runOn}
-use Rattle.history.specs.Call.{Call, reset, write, read, vector, run, report, recordAfter, finalRecord, Passable, deviceIn, usartOf, OnlyDataCall, OnlyData, isRun, rxdBy, rxdOf}
-use Rattle.history.proofs.StepLaws.{nextDevice, run-on, step, induct}
+use Rattle.history.specs.Call.{Call, reset, write, read, vector, run, report, finalRecord, Passable, deviceIn, usartOf, OnlyDataCall, OnlyData, isRun}
+use Rattle.history.proofs.StepLaws.{nextDevice, run-on, induct}
 
 -- a run on a record of d is done
 abbrev pub runs : Device → List ℕ → List ℕ → Bool

@@ -2,14 +2,14 @@
 -- traffic, reads, a write of UDR0, vectors and reports among the runs.
 use Prim.Native.Nat.{ℕ, zero, suc, _+_, _*_, _≤_}
 use mathlib.Core.Bool.{Bool, true, false}
-use mathlib.Core.List.{List, [], _∷_, _++_, map}
+use mathlib.Core.List.{List, [], _∷_}
 use mathlib.Core.Path.{_≡_, refl, sym, ap, subst, _∙_}
 use native.Mathlib.Omega.{arith}
 use lib.Dec.{eqb, lit≤, lit<}
 use lib.ListN.{length}
 use borrow.Author.Tests.{eqb-true}
 use Rattle.choice.specs.Pick.{pick, digit}
-use Rattle.choice.proofs.Picks.{both, pick-ind}
+use Rattle.choice.proofs.Picks.{both}
 use Rattle.frame.specs.Format.{samples}
 use Rattle.frame.specs.Limit.{limit, Within}
 use Rattle.frame.specs.Parity.{sumOfBits}
@@ -53,7 +53,7 @@ use Rattle.record.specs.declared.codec.Decoded.{Decoded}
 use Rattle.record.specs.declared.codec.Decoded.the-variants.{Accepted}
 use Rattle.record.proofs.Round.{decode-record}
 use Rattle.warpmagpie.specs.Calls.{runOn}
-use Rattle.history.specs.Call.{Call, reset, write, read, vector, run, report, Passable, deviceIn, usartOf, OnlyDataCall, OnlyData, rxdOf}
+use Rattle.history.specs.Call.{Call, reset, write, read, vector, run, report, Passable, deviceIn, OnlyDataCall, OnlyData, rxdOf}
 use Rattle.history.specs.Receiving.{FreeCall, Free, Hears, Delivered}
 use Rattle.history.proofs.StepLaws.{nextDevice, write-on, induct}
 use Rattle.history.proofs.ViewLaws.{runs, viewOf, runs-is}

@@ -1,7 +1,7 @@
 -- The marked cases M1 to M10 of document 01, each of the rules' own definitions, in one list.
-use Prim.Native.Nat.{ℕ, zero, suc, _+_, _*_, _≤_, _<_}
-use mathlib.Core.Bool.{Bool, true, false}
-use mathlib.Core.List.{List, [], _∷_, _++_, map}
+use Prim.Native.Nat.{ℕ, zero, suc, _+_, _*_, _≤_}
+use mathlib.Core.Bool.{true, false}
+use mathlib.Core.List.{List, [], _∷_, _++_}
 use mathlib.Core.Path.{_≡_}
 use Rattle.choice.specs.Pick.{digit}
 use Rattle.frame.specs.Format.{samples, lastBit}
@@ -14,7 +14,6 @@ use Rattle.frame.specs.declared.format.Size.the-variants.{Nine}
 use Rattle.usart.specs.Line.{Sent, lineLevel}
 use Rattle.usart.specs.Receiving.{bitAt}
 use Rattle.spi.specs.Control.{numberOf}
-use Rattle.spi.specs.Divisor.{divisors}
 use Rattle.spi.specs.Event.{Event, clock, clocksIn, isUndisturbed}
 use Rattle.spi.specs.Exchange.{SetsSpif, MayStart}
 use Rattle.spi.specs.Register.{writeSpdr}

@@ -1,6 +1,6 @@
 -- Demand 3 (document 01, 'The line of demand 3'): what is asked of the record, the calls and the line, and what comes of them.
 use Prim.Native.Nat.{ℕ, _+_, _*_, _≤_}
-use mathlib.Core.Bool.{Bool, true, false}
+use mathlib.Core.Bool.{true}
 use mathlib.Core.List.{List, [], _∷_, _++_, map}
 use mathlib.Core.Path.{_≡_}
 use lib.Dec.{eqb}

@@ -4,7 +4,6 @@ use mathlib.Core.Bool.{Bool}
 use mathlib.Core.Path.{_≡_, refl}
 use native.Mathlib.Omega.{arith}
 use lib.Dec.{lit≤}
-use Rattle.choice.specs.Pick.{pick, digit}
 use Rattle.choice.proofs.Digits.{digit-le}
 use Rattle.choice.proofs.Picks.{pick-ind}
 use Rattle.spi.specs.Control.{isEnabled, isMaster, drives}

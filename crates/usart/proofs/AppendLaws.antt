@@ -1,13 +1,13 @@
 -- Lists of events one after another: what holds of the whole, by what holds of the first part and of the second from where the first ends.
-use Prim.Native.Nat.{ℕ, zero, suc, _+_}
+use Prim.Native.Nat.{ℕ, suc, _+_}
 use mathlib.Core.List.{List, [], _∷_, _++_, append-assoc}
-use mathlib.Core.Path.{_≡_, refl, ap, _∙_}
+use mathlib.Core.Path.{_≡_, refl, ap}
 use native.Mathlib.Omega.{arith}
 use lib.ListN.{length}
 use Rattle.usart.specs.Unit.{clockOf, outputOf}
 use Rattle.usart.specs.Event.{Event, clock, write, read, vector, nextOf, finalOf, OnlyData, levelsOf}
-use Rattle.usart.specs.Receiving.{Free, takenBy, readsOf, entriesOf}
-use Rattle.usart.specs.Sending.{acceptedBy, acceptedOf, outputsOf}
+use Rattle.usart.specs.Receiving.{Free, readsOf, entriesOf}
+use Rattle.usart.specs.Sending.{acceptedOf, outputsOf}
 use Rattle.usart.specs.declared.unit.Usart.{Usart}
 
 pub final-append : (u : Usart) (es fs : List Event) → finalOf u (es ++ fs) ≡ finalOf (finalOf u es) fs

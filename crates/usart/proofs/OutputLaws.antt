@@ -1,9 +1,7 @@
 -- The unit's share of the output byte is bits 0 and 4, and of the report bits 0 to 2.
-use Prim.Native.Nat.{ℕ, _+_, _%_, _≤_, _<_}
-use mathlib.Core.Bool.{not}
+use Prim.Native.Nat.{ℕ, _%_, _≤_, _<_}
 use native.Mathlib.Omega.{arith}
 use lib.Dec.{lit≤}
-use Rattle.choice.specs.Pick.{digit}
 use Rattle.choice.proofs.Digits.{digit-le}
 use Rattle.choice.proofs.Picks.{pick-ind}
 use Rattle.usart.specs.Sender.{txdOf}

@@ -1,17 +1,16 @@
 -- A run, clock by clock: what is left of it after i level bytes.
 use Prim.Native.Nat.{ℕ, suc, _+_, _<_, _≤_}
-use mathlib.Core.Bool.{Bool, true, false}
-use mathlib.Core.List.{List, [], _∷_, _++_, append-assoc, append-nil}
-use mathlib.Core.Path.{_≡_, refl, sym, ap, ap₂, _∙_}
+use mathlib.Core.Bool.{Bool, false}
+use mathlib.Core.List.{List, [], _++_, append-assoc, append-nil}
+use mathlib.Core.Path.{_≡_, sym, ap, ap₂, _∙_}
 use native.Mathlib.Numerals.{add-one}
 use native.Mathlib.Omega.{arith}
-use lib.Dec.{ltb}
 use lib.ListN.{length, take, drop, getD, set}
 use lib.Seq.{drop-cons, drop-length, take-length, take-suc-set}
 use borrow.Author.Tests.{lt-ltb, le-ltb}
 use Rattle.choice.specs.Pick.{pick}
 use Rattle.device.specs.Run.{ranOf, outputsOf, areLevels}
-use Rattle.device.specs.Unit.{clockOf, outputOf, clockedOf}
+use Rattle.device.specs.Unit.{clockedOf}
 use Rattle.device.specs.declared.unit.Clocked.{Clocked}
 use Rattle.device.specs.declared.unit.Device.{Device}
 

@@ -4,7 +4,6 @@ use native.Mathlib.Omega.{arith}
 use lib.ListN.{length, drop}
 use Rattle.device.specs.Run.{areLevels}
 use Rattle.warpmagpie.proofs.Runs.{level-low, level-high, none-left}
-use Rattle.choice.proofs.Picks.{picks}
 use Rattle.warpmagpie.proofs.run.are_levels.Statement.{statement}
 use Rattle.warpmagpie.proofs.run.are_levels.Tie as tie
 use Rattle.warpmagpie.proofs.run.are_levels.Reads as reads

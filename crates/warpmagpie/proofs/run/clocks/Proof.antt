@@ -5,7 +5,6 @@ use native.Mathlib.Omega.{arith}
 use lib.ListN.{length, take, drop, length-set}
 use Rattle.device.specs.Run.{ranOf, outputsOf}
 use Rattle.warpmagpie.proofs.Runs.{ran-on, outputs-on, none-left, all-taken}
-use Rattle.choice.proofs.Picks.{picks}
 use Rattle.warpmagpie.proofs.run.clocks.Statement.{statement}
 use Rattle.warpmagpie.proofs.run.clocks.Tie as tie
 use Rattle.warpmagpie.proofs.run.clocks.Reads as reads
