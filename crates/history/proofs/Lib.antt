@@ -5,6 +5,7 @@ pub mod ReceivingLine
 pub mod SendingLine
 pub mod Independence
 pub mod MarkedCases
+pub mod ClosedHistories
 pub mod Witness
 pub mod Reached
 pub mod TableLaws

@@ -1,13 +1,13 @@
--- Demand 3 is not empty: at each speed a closed history that meets every premise, with two frames at unequal crystals, and with refused calls, SPI
--- traffic, reads, a write of UDR0, vectors and reports among the runs.
-use Prim.Native.Nat.{ℕ, zero, suc, _+_, _*_, _≤_}
+-- The theorems over histories are not empty: at each speed a closed history that meets every premise of demand 3, with two frames at unequal
+-- crystals, and with refused calls, SPI traffic, reads, a write of UDR0, vectors and reports among the runs. The same history is one of the sender's,
+-- and one that agrees with its serial side alone.
+use Prim.Native.Nat.{ℕ, zero, suc, _+_, _-_, _*_, _≤_}
 use mathlib.Core.Bool.{Bool, true, false}
 use mathlib.Core.List.{List, [], _∷_}
 use mathlib.Core.Path.{_≡_, refl, sym, ap, subst, _∙_}
 use native.Mathlib.Omega.{arith}
-use lib.Dec.{eqb, lit≤, lit<}
+use lib.Dec.{lit≤, lit<}
 use lib.ListN.{length}
-use borrow.Author.Tests.{eqb-true}
 use Rattle.choice.specs.Pick.{pick, digit}
 use Rattle.choice.proofs.Picks.{both}
 use Rattle.frame.specs.Format.{samples}
@@ -20,7 +20,6 @@ use Rattle.usart.specs.Baud.{leftOf}
 use Rattle.usart.specs.Event.{levelsOf}
 use Rattle.usart.specs.Line.{Sent, lineLevel, Spaced, EndedBy, Shows}
 use Rattle.usart.specs.Receiver.{listenedOf}
-use Rattle.usart.specs.Receiving.{Free as FreeAt}
 use Rattle.usart.specs.Sampler.{idleOf, castOf, nextBitOf, shiftedOf, decidedOf, votedOf, sampledOf, samplerOf}
 use Rattle.usart.specs.Sender.{steppedOf}
 use Rattle.usart.specs.Settings.{sizeOf, parityOf}
@@ -30,8 +29,7 @@ use Rattle.usart.specs.declared.queue.Places.the-variants.{Empty}
 use Rattle.usart.specs.declared.sampler.Sampler.the-variants.{Idle}
 use Rattle.usart.specs.declared.sender.Buffer.the-variants.{Vacant}
 use Rattle.usart.specs.declared.sender.Shifter.the-variants.{Resting}
-use Rattle.usart.specs.declared.unit.Usart.{Usart}
-use Rattle.usart.proofs.ClosedLists.{bool-eqb, shown, shown-shows, room, free, free-free}
+use Rattle.usart.proofs.ClosedLists.{bool-eqb, shown, shown-shows, room, free}
 use Rattle.spi.specs.Unit.{resetSpi}
 use Rattle.spi.specs.Clock.{masterOf, steppedOf as spiStepped, completedFlags}
 use Rattle.spi.specs.Control.{numberOf}
@@ -42,86 +40,25 @@ use Rattle.spi.proofs.ValidLaws.{valid-reset}
 use Rattle.shifter.specs.Edge.{isSampling, isPutting, edgeOf}
 use Rattle.shifter.specs.Order.{outBit, shiftedIn}
 use Rattle.device.specs.Address.{placeOf}
-use Rattle.device.specs.Answer.{answerOf}
-use Rattle.device.specs.Register.{writeOf, vectorOf}
+use Rattle.device.specs.Register.{vectorOf}
 use Rattle.device.specs.Run.{ranOf, areLevels}
-use Rattle.device.specs.Serial.{isSerial, clocksOf, vectorsAt}
+use Rattle.device.specs.Serial.{vectorsAt}
 use Rattle.device.specs.Valid.{Valid}
 use Rattle.device.specs.declared.unit.Device.{Device}
 use Rattle.record.specs.Codec.{decodeOf, recordOf}
-use Rattle.record.specs.declared.codec.Decoded.{Decoded}
 use Rattle.record.specs.declared.codec.Decoded.the-variants.{Accepted}
 use Rattle.record.proofs.Round.{decode-record}
 use Rattle.warpmagpie.specs.Calls.{runOn}
-use Rattle.history.specs.Call.{Call, reset, write, read, vector, run, report, Passable, deviceIn, OnlyDataCall, OnlyData, rxdOf}
-use Rattle.history.specs.Receiving.{FreeCall, Free, Hears, Delivered}
-use Rattle.history.proofs.StepLaws.{nextDevice, write-on, induct}
-use Rattle.history.proofs.ViewLaws.{runs, viewOf, runs-is}
+use Rattle.history.specs.Call.{Call, reset, write, read, vector, run, report, Passable, OnlyData, rxdOf}
+use Rattle.history.specs.Receiving.{Hears, Delivered}
+use Rattle.history.specs.Sending.{MaySend, Sends}
+use Rattle.history.specs.Serial.{reports, Alike, Agree}
+use Rattle.history.proofs.ViewLaws.{runs, viewOf}
 use Rattle.history.proofs.ReceivingView.{rxd-view}
+use Rattle.history.proofs.ClosedHistories.{only, onlyAll, only-all, roomy, roomyAll, roomy-all, parts, parts-are}
 use Rattle.history.proofs.ReceivingLine.{receives}
-
--- no serial register but UDR0 is written, as a test on the device
-unfoldable only : Device → Call → Bool
-only d reset = false
-only d (write a v) = pick (eqb (answerOf (writeOf d a v)) 0) (pick (isSerial (placeOf a)) (eqb a 0xC6) true) true
-only d (read a) = true
-only d (vector n) = true
-only d (run ls os) = true
-only d report = true
-
-unfoldable onlyAll : Device → List Call → Bool
-onlyAll d [] = true
-onlyAll d (c ∷ cs) = pick (only d c) (onlyAll (nextDevice d c) cs) false
-
-only-write : (n : ℕ) (t : Bool) (a : ℕ) → pick (eqb n 0) (pick t (eqb a 0xC6) true) true ≡ true → n ≡ 0 → t ≡ true → a ≡ 0xC6
-only-write n t a e hn ht = eqb-true a 0xC6 (rw (hn, ht) at e)
-
-only-call : (s : List ℕ) (d : Device) → decodeOf s ≡ Accepted d → (c : Call) → only d c ≡ true → OnlyDataCall s c
-unfolding only
-only-call s d h reset e = let z : _≡_ {A = ℕ} 0 1 = cc in omega arith
-only-call s d h (write a v) e = λ n t. only-write (answerOf (writeOf d a v)) (isSerial (placeOf a)) a e (sym (ap answerOf (write-on s d h a v)) ∙ n) t
-only-call s d h (read a) e = tt
-only-call s d h (vector n) e = tt
-only-call s d h (run ls os) e = tt
-only-call s d h report e = tt
-
-only-all : (s : List ℕ) (d : Device) (cs : List Call) → decodeOf s ≡ Accepted d → Passable cs → onlyAll d cs ≡ true → OnlyData s cs
-unfolding onlyAll
-only-all =
-    induct (λ (s : List ℕ) (d : Device) (cs : List Call). onlyAll d cs ≡ true → OnlyData s cs)
-    (λ s d h e. tt)
-    (λ s d c cs h k e. let b = both (only d c) (onlyAll (nextDevice d c) cs) e in (only-call s d h c (b .0), k (b .1)))
-
--- a place is free whenever a frame completes, as a test on the device
-unfoldable roomy : Device → Call → Bool
-roomy d reset = true
-roomy d (write a v) = true
-roomy d (read a) = true
-roomy d (vector n) = true
-roomy d (run ls os) = pick (runs d ls os) (free (d .usart) (clocksOf ls)) true
-roomy d report = true
-
-unfoldable roomyAll : Device → List Call → Bool
-roomyAll d [] = true
-roomyAll d (c ∷ cs) = pick (roomy d c) (roomyAll (nextDevice d c) cs) false
-
-roomy-call : (s : List ℕ) (d : Device) → decodeOf s ≡ Accepted d → (c : Call) → roomy d c ≡ true → FreeCall s c
-unfolding roomy
-roomy-call s d h reset e = tt
-roomy-call s d h (write a v) e = tt
-roomy-call s d h (read a) e = tt
-roomy-call s d h (vector n) e = tt
-roomy-call s d h (run ls os) e = λ r.
-    let t : runs d ls os ≡ true = sym (runs-is s d h ls os) ∙ r in
-    subst (λ (u : Usart). FreeAt u (clocksOf ls)) (sym (ap (λ (x : Decoded). deviceIn x .usart) h)) (free-free (d .usart) (clocksOf ls) (rw t at e))
-roomy-call s d h report e = tt
-
-roomy-all : (s : List ℕ) (d : Device) (cs : List Call) → decodeOf s ≡ Accepted d → Passable cs → roomyAll d cs ≡ true → Free s cs
-unfolding roomyAll
-roomy-all =
-    induct (λ (s : List ℕ) (d : Device) (cs : List Call). roomyAll d cs ≡ true → Free s cs)
-    (λ s d h e. tt)
-    (λ s d c cs h k e. let b = both (roomy d c) (roomyAll (nextDevice d c) cs) e in (roomy-call s d h c (b .0), k (b .1)))
+use Rattle.history.proofs.SendingLine.{sends}
+use Rattle.history.proofs.Independence.{independent}
 
 -- 5 data bits, even parity, UBRR 0: D = 6, a bit of the receiver is 8 or 16 clocks; the SPI as after reset
 unfoldable pub start : Bool → Device
@@ -219,6 +156,15 @@ unfolding frames
 ended true = lit≤ tt
 ended false = lit≤ tt
 
+-- its record is the device's, and no serial register but UDR0 is written
+accepted : (u2x : Bool) → decodeOf (recordOf (start u2x)) ≡ Accepted (start u2x)
+accepted u2x = decode-record (start u2x) (valid u2x)
+
+onlyData : (u2x : Bool) → OnlyData (recordOf (start u2x)) (calls u2x)
+unfolding meets
+onlyData u2x =
+    only-all (recordOf (start u2x)) (start u2x) (calls u2x) (accepted u2x) (passable u2x) (both (onlyAll (start u2x) (calls u2x)) _ (computed u2x) .0)
+
 -- every premise of demand 3 holds of it
 pub witness : (u2x : Bool) → Hears (813 * scale u2x) 100 (frames u2x) (start u2x) (recordOf (start u2x)) (calls u2x)
 unfolding start frames level meets
@@ -226,11 +172,10 @@ witness u2x =
     let d = start u2x in
     let s = recordOf d in
     let cs = calls u2x in
-    let h : decodeOf s ≡ Accepted d = decode-record d (valid u2x) in
+    let h = accepted u2x in
     let p = passable u2x in
-    let a = both (onlyAll d cs) _ (computed u2x) in
-    let b = both (roomyAll d cs) _ (a .1) in
-    let o = only-all s d cs h p (a .0) in
+    let o = onlyData u2x in
+    let b = both (roomyAll d cs) _ (both (onlyAll d cs) _ (computed u2x) .1) in
     let e : levelsOf (viewOf d cs) ≡ rxdOf s cs = sym (rxd-view s d cs h p o) in
     record {
       valid = h;
@@ -249,3 +194,46 @@ witness u2x =
 
 pub witnessed : (u2x : Bool) → Delivered (813 * scale u2x) 100 (frames u2x) (start u2x) (recordOf (start u2x)) (calls u2x)
 witnessed u2x = receives (813 * scale u2x) 100 (frames u2x) (start u2x) (recordOf (start u2x)) (calls u2x) (witness u2x)
+
+-- the same history is one of the sender's: it is given a byte in mid-frame
+pub sender-witness : (u2x : Bool) → MaySend (start u2x) (recordOf (start u2x)) (calls u2x)
+unfolding start
+sender-witness u2x = record { valid = accepted u2x; enabled = refl; resting = refl; passable = passable u2x; onlyData = onlyData u2x }
+
+pub sent : (u2x : Bool) → Sends (start u2x) (recordOf (start u2x)) (calls u2x)
+sent u2x = sends (start u2x) (recordOf (start u2x)) (calls u2x) (sender-witness u2x)
+
+-- the serial side of the history alone, its clocks split into other runs
+unfoldable pub quiet : Bool → List Call
+quiet u2x =
+    let n : ℕ = 20 * scale u2x in
+    let m : ℕ = 60 * scale u2x in
+    runFor u2x 0 7 ∷ runFor u2x 7 (n - 7) ∷ write 0xC4 7 ∷ write 0xC2 0xC0 ∷ write 0xC2 0x16 ∷ vector 0 ∷ report ∷ write 0xC6 85 ∷ read 0xC0 ∷ read 0xC6 ∷ runFor u2x n 5
+    ∷ runFor u2x (n + 5) (m - 5) ∷ report ∷ read 0xC6 ∷ runFor u2x (n + m) m ∷ []
+
+quiet-passable : (u2x : Bool) → Passable (quiet u2x)
+unfolding quiet
+quiet-passable u2x = (tt, (tt, (lit< tt, (lit< tt, (lit< tt, (tt, (tt, (lit< tt, (tt, (tt, (tt, (tt, (tt, (tt, (tt, tt)))))))))))))))
+
+same : (u2x : Bool) → parts (start u2x) (calls u2x) ≡ parts (start u2x) (quiet u2x)
+unfolding parts start frames level line blank calls quiet lineLevel frameBit sumOfBits areLevels runOn vectorsAt placeOf
+same true = refl
+same false = refl
+
+-- the premises of SPI independence hold of the two, and so its conclusion
+pub alike : (u2x : Bool) → Alike (start u2x) (start u2x) (recordOf (start u2x)) (recordOf (start u2x)) (calls u2x) (quiet u2x)
+alike u2x =
+    let d = start u2x in
+    let s = recordOf d in
+    record {
+      first = accepted u2x;
+      second = accepted u2x;
+      one = refl;
+      passable = passable u2x;
+      passableToo = quiet-passable u2x;
+      same =
+          parts-are s d (calls u2x) (accepted u2x) (passable u2x) ∙ same u2x ∙ sym (parts-are s d (quiet u2x) (accepted u2x) (quiet-passable u2x));
+    }
+
+pub agree : (u2x : Bool) → Agree (recordOf (start u2x)) (recordOf (start u2x)) (calls u2x) (quiet u2x)
+agree u2x = independent (start u2x) (start u2x) (recordOf (start u2x)) (recordOf (start u2x)) (calls u2x) (quiet u2x) (alike u2x)
