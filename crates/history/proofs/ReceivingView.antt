@@ -114,6 +114,10 @@ free-view =
     free-append (d .usart) (eventsOf d c) (viewOf (nextDevice d c) cs) (free-by s d h c (f .0))
     (subst (λ (u : Usart). FreeAt u (viewOf (nextDevice d c) cs)) (next-usart s d c (o .0)) (k (o .1) (f .1))))
 
+-- what UDR0, UCSR0B and UCSR0A show of a frame
+abbrev seenOf : ℕ → ℕ → ℕ → Seen
+seenOf v b a = record { value = v; rxb8 = bitAt b 1; fe = bitAt a 4; dor = bitAt a 3; upe = bitAt a 2 }
+
 -- what the registers read
 module _ (s : List ℕ) (d : Device) (h : decodeOf s ≡ Accepted d) where
   pub ucsr0a-is : readValue s 0xC0 ≡ serialReadOf (d .usart) Ucsr0a .value
@@ -129,7 +133,9 @@ module _ (s : List ℕ) (d : Device) (h : decodeOf s ≡ Accepted d) where
   udr0-is = ap valueOf (read-on s d h 0xC6)
 
   seen-is : seenBy s ≡ seenAt (d .usart)
-  seen-is = rw (ucsr0a-is, ucsr0b-is, udr0-is)
+  seen-is =
+      ap (λ (v : ℕ). seenOf v (readValue s 0xC1) (readValue s 0xC0)) udr0-is
+      ∙ ap₂ (seenOf (serialReadOf (d .usart) Udr0 .value)) ucsr0b-is ucsr0a-is
 
 -- what a UDR0 read sees if RXC is set
 abbrev seenIf : Usart → List Seen
