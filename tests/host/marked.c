@@ -1,4 +1,4 @@
-/* M8 and M10 of document 01 through the archive, and a few refusals at the C boundary. Exits with 1 at the first difference. */
+/* M8 and M10 of document 01 through the archive, and each refusal once at the C boundary. Exits with 1 at the first difference. */
 #include <stdio.h>
 #include <stdlib.h>
 #include <string.h>
@@ -119,7 +119,12 @@ static void refusals(void)
     expect("stray byte", warpmagpie_requests(record, sizeof record, &value), WARPMAGPIE_RECORD);
     done("reset of any bytes", warpmagpie_reset(record, sizeof record));
     expect("record after reset", (unsigned)memcmp(before, record, sizeof before), 0);
-    puts("refusals 1, 2, 3, 5, 6, 7 and 8: numbers as given, nothing touched");
+    put(WARPMAGPIE_UCSR0B, WARPMAGPIE_TXEN);
+    put(WARPMAGPIE_UDR0, 0x55);
+    memcpy(before, record, sizeof before);
+    expect("setting under way", warpmagpie_write(record, sizeof record, WARPMAGPIE_UBRR0L, 7), WARPMAGPIE_UNDER_WAY);
+    expect("record untouched", (unsigned)memcmp(before, record, sizeof before), 0);
+    puts("refusals 1 to 8: numbers as given, nothing touched");
 }
 
 int main(void)
