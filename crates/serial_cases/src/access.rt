@@ -17,7 +17,7 @@ pub struct Seen {
 }
 
 // The answer that the rig sees; a refused access leaves the unit as it was.
-pub fn answered(u: Usart, w: Written) -> Seen {
+pub(crate) fn answered(u: Usart, w: Written) -> Seen {
     match w {
         Written::Done(n) => Seen { usart: n, came: 0 },
         Written::Refused(r) => Seen {
@@ -27,7 +27,7 @@ pub fn answered(u: Usart, w: Written) -> Seen {
     }
 }
 
-pub fn set(u: Usart, register: Register, v: u8) -> Usart {
+pub(crate) fn set(u: Usart, register: Register, v: u8) -> Usart {
     answered(u, u.write(register, v)).usart
 }
 
@@ -60,7 +60,7 @@ fn ucsr0c(s: Setup) -> u8 {
 }
 
 // A unit after reset and the writes that set it up. UCSR0C goes before UCSR0B: nine bits then come by way of eight.
-pub fn prepared(s: Setup, enables: u8) -> Usart {
+pub(crate) fn prepared(s: Setup, enables: u8) -> Usart {
     let a = set(Usart::reset(), Register::Ucsr0a, weight(s.u2x, 2));
     let c = set(a, Register::Ucsr0c, ucsr0c(s));
     let b = set(c, Register::Ucsr0b, ucsr0b(s, enables, false));
@@ -69,7 +69,7 @@ pub fn prepared(s: Setup, enables: u8) -> Usart {
 }
 
 // TXB8 and UDR0 written.
-pub fn loaded(u: Usart, s: Setup, x: u16) -> Usart {
+pub(crate) fn loaded(u: Usart, s: Setup, x: u16) -> Usart {
     let b = set(u, Register::Ucsr0b, ucsr0b(s, TXEN, x / 256 % 2 == 1));
     set(b, Register::Udr0, (x % 256) as u8)
 }
@@ -82,7 +82,7 @@ fn frame_number(a: u8, b: u8, d: u8) -> u64 {
 }
 
 // A frame is read: its flags and RXB8 before UDR0, for afterwards they are the next frame's.
-pub fn frame_read(u: Usart) -> Seen {
+pub(crate) fn frame_read(u: Usart) -> Seen {
     let a = u.ucsr0a();
     let b = u.ucsr0b();
     let d = u.read(Register::Udr0);

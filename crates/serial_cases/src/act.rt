@@ -121,7 +121,7 @@ fn quiet(u: Usart) -> Seen {
     Seen { usart: u, came: 0 }
 }
 
-pub fn acted(u: Usart, s: Setup, kind: u64, n: u64) -> Seen {
+pub(crate) fn acted(u: Usart, s: Setup, kind: u64, n: u64) -> Seen {
     match kind {
         5 => quiet(held(u, n / 0x1_0000 == 1, 0, word_at(n) as u32)),
         6 => quiet(frame(u, s, n)),

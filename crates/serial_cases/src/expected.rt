@@ -27,14 +27,14 @@ fn odd(x: u16, bits: u16) -> bool {
 }
 
 impl Setup {
-    pub fn stop_bits(self) -> u8
+    pub(crate) fn stop_bits(self) -> u8
         ensures { λ r. ⌜ r ≤ 2 ⌝ }
     {
         if self.usbs { 2 } else { 1 }
     }
 
     // Bits of a frame, start and stop bits too.
-    pub fn frame_bits(self) -> u16
+    pub(crate) fn frame_bits(self) -> u16
         ensures { λ r. ⌜ r ≤ 259 ⌝ }
     {
         let others = self.bits as u16 + self.stop_bits() as u16 + 1;
@@ -42,34 +42,34 @@ impl Setup {
     }
 
     // S.
-    pub fn samples(self) -> u8
+    pub(crate) fn samples(self) -> u8
         ensures { λ r. ⌜ (8 ≤ r) × (r ≤ 16) ⌝ }
     {
         if self.u2x { 8 } else { 16 }
     }
 
     // Clocks from tick to tick.
-    pub fn tick_clocks(self) -> u32
+    pub(crate) fn tick_clocks(self) -> u32
         ensures { λ r. ⌜ (1 ≤ r) × (r ≤ 65536) ⌝ }
     {
         self.ubrr as u32 + 1
     }
 
-    pub fn bit_clocks(self) -> u32
+    pub(crate) fn bit_clocks(self) -> u32
         ensures { λ r. ⌜ (1 ≤ r) × (r ≤ 1048576) ⌝ }
     {
         let ticks = self.tick_clocks();
         if self.u2x { 8 * ticks } else { 16 * ticks }
     }
 
-    pub fn frame_clocks(self) -> u32
+    pub(crate) fn frame_clocks(self) -> u32
         ensures { λ r. ⌜ r ≤ 271581184 ⌝ }
     {
         self.frame_bits() as u32 * self.bit_clocks()
     }
 
     // The data bits of x.
-    pub fn data(self, x: u16) -> u16 {
+    pub(crate) fn data(self, x: u16) -> u16 {
         let bits = self.bits;
         match bits {
             5 => x % 32,
@@ -86,7 +86,7 @@ impl Setup {
     }
 
     // The level of bit k of a frame that carries x; the start bit is bit 0.
-    pub fn level(self, x: u16, k: u16) -> bool {
+    pub(crate) fn level(self, x: u16, k: u16) -> bool {
         let bits = self.bits as u16;
         if k == 0 {
             return false;

@@ -94,7 +94,7 @@ fn setup_of(n: u8) -> Setup {
     }
 }
 
-pub fn all() {
+pub(crate) fn all() {
     for n in 0..60 {
         exchanged(setup_of(n));
     }

@@ -36,7 +36,7 @@ impl Link {
     }
 
     // Clocks at which TxD is to be driven and at a level.
-    pub fn watched(self, level: bool, clocks: u32) -> Link {
+    pub(crate) fn watched(self, level: bool, clocks: u32) -> Link {
         let expected = driven(level);
         let mut l = self;
         for _ in 0..clocks {
@@ -46,7 +46,7 @@ impl Link {
     }
 
     // The bits of a frame that TxD is to show, from bit `from` on to its last.
-    pub fn bits(self, s: Setup, x: u16, from: u16) -> Link {
+    pub(crate) fn bits(self, s: Setup, x: u16, from: u16) -> Link {
         let clocks = s.bit_clocks();
         let mut l = self;
         for k in from..s.frame_bits() {
@@ -56,7 +56,7 @@ impl Link {
     }
 
     // Data written to the sender.
-    pub fn loaded(self, s: Setup, x: u16) -> Link {
+    pub(crate) fn loaded(self, s: Setup, x: u16) -> Link {
         let r = self.receiver;
         Link {
             sender: loaded(self.sender, s, x),

@@ -169,6 +169,6 @@ const CASES: [u64; 140] = [
     END,
 ];
 
-pub fn run() {
+pub(crate) fn run() {
     play(&CASES);
 }

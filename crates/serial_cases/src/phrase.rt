@@ -5,12 +5,12 @@ use crate::print::hex;
 use crate::print::text;
 use crate::step::word_at;
 
-pub fn number(words: &[u8], n: u64) {
+pub(crate) fn number(words: &[u8], n: u64) {
     text(words);
     decimal(n);
 }
 
-pub fn digits(words: &[u8], n: u64, width: usize) {
+pub(crate) fn digits(words: &[u8], n: u64, width: usize) {
     text(words);
     hex(n, width);
 }
@@ -24,7 +24,7 @@ fn parity_name(upm: u8) {
 }
 
 // As 8N1 S=16 UBRR=0.
-pub fn setup(s: Setup) {
+pub(crate) fn setup(s: Setup) {
     decimal(s.bits as u64);
     parity_name(s.upm);
     decimal(s.stop_bits() as u64);
@@ -121,7 +121,7 @@ fn write(n: u64) {
 }
 
 // What a step does.
-pub fn done(kind: u64, n: u64) {
+pub(crate) fn done(kind: u64, n: u64) {
     match kind {
         5 => level(n),
         6 => frame(n),
@@ -133,7 +133,7 @@ pub fn done(kind: u64, n: u64) {
 }
 
 // The data read, the flags that came with it, and whether there was nothing to read.
-pub fn frame_read(came: u64) {
+pub(crate) fn frame_read(came: u64) {
     digits(b" ", came % 0x1000, 3);
     flag(b" FE", came / 0x10_000);
     flag(b" DOR", came / 0x08_000);
@@ -147,7 +147,7 @@ fn waited(clocks: u64) {
 }
 
 // What came out of it.
-pub fn came(kind: u64, n: u64) {
+pub(crate) fn came(kind: u64, n: u64) {
     match kind {
         7 => waited(n),
         8 => frame_read(n),

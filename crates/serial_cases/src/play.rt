@@ -98,7 +98,7 @@ fn taken(b: Bench, step: u64) -> Bench {
     stepped(b, kind, step % KIND)
 }
 
-pub fn play(steps: &[u64]) {
+pub(crate) fn play(steps: &[u64]) {
     let mut b = reset();
     let mut i = 0;
     while i < steps.len() {

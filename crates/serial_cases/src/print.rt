@@ -1,20 +1,20 @@
 // Words and numbers on standard output.
 use libc::STDOUT_FILENO;
 
-pub fn text(words: &[u8]) {
+pub(crate) fn text(words: &[u8]) {
     io::write_all(STDOUT_FILENO, words);
 }
 
-pub fn decimal(n: u64) {
+pub(crate) fn decimal(n: u64) {
     io::print_decimal(STDOUT_FILENO, n);
 }
 
-pub fn hex(n: u64, digits: usize) {
+pub(crate) fn hex(n: u64, digits: usize) {
     io::print_hex(STDOUT_FILENO, n, digits);
 }
 
 // The end of a case's line.
-pub fn verdict(ok: bool) {
+pub(crate) fn verdict(ok: bool) {
     if ok {
         text(b": ok\n");
     } else {

@@ -136,6 +136,6 @@ const CASES: [u64; 103] = [
     END,
 ];
 
-pub fn run() {
+pub(crate) fn run() {
     play(&CASES);
 }

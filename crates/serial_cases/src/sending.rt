@@ -125,6 +125,6 @@ const CASES: [u64; 93] = [
     END,
 ];
 
-pub fn run() {
+pub(crate) fn run() {
     play(&CASES);
 }

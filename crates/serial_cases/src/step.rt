@@ -98,10 +98,10 @@ pub const REPORT_IS: u64 = 10 * KIND + 0x7_00;
 pub const OUTPUT_IS: u64 = 10 * KIND + 0x8_00;
 
 // Digits of a step: `digits` of them from place `at` on are n / 16^at % 16^digits, by these.
-pub fn byte_at(n: u64) -> u8 {
+pub(crate) fn byte_at(n: u64) -> u8 {
     (n % 0x100) as u8
 }
 
-pub fn word_at(n: u64) -> u16 {
+pub(crate) fn word_at(n: u64) -> u16 {
     (n % 0x1_0000) as u16
 }

@@ -116,7 +116,7 @@ fn exchange(b: Bench, n: u64) -> Seen {
     giving(c, byte)
 }
 
-pub fn acted(b: Bench, kind: u64, n: u64) -> Seen {
+pub(crate) fn acted(b: Bench, kind: u64, n: u64) -> Seen {
     match kind {
         4 => giving(pinned(b, n), 0),
         5 => giving(b.clocks(word_at(n)), 0),

@@ -23,15 +23,15 @@ fn spif(s: Spi) -> bool {
 }
 
 impl Bench {
-    pub fn spif(self) -> bool {
+    pub(crate) fn spif(self) -> bool {
         spif(self.spi)
     }
 
-    pub fn output(self) -> u8 {
+    pub(crate) fn output(self) -> u8 {
         self.spi.output(self.pins.ss)
     }
 
-    pub fn with_spi(self, s: Spi) -> Bench {
+    pub(crate) fn with_spi(self, s: Spi) -> Bench {
         let p = self.pins;
         Bench {
             spi: s,
@@ -40,7 +40,7 @@ impl Bench {
         }
     }
 
-    pub fn with_pins(self, p: Levels) -> Bench {
+    pub(crate) fn with_pins(self, p: Levels) -> Bench {
         let s = self.spi;
         Bench {
             spi: s,
@@ -49,7 +49,7 @@ impl Bench {
         }
     }
 
-    pub fn clock(self) -> Bench {
+    pub(crate) fn clock(self) -> Bench {
         let s = self.spi;
         let p = self.pins;
         Bench {
@@ -59,7 +59,7 @@ impl Bench {
         }
     }
 
-    pub fn clocks(self, n: u16) -> Bench {
+    pub(crate) fn clocks(self, n: u16) -> Bench {
         let mut b = self;
         for _ in 0..n {
             b = b.clock();
@@ -68,7 +68,7 @@ impl Bench {
     }
 
     // The level on SCK turned, and a clock.
-    pub fn edge(self) -> Bench {
+    pub(crate) fn edge(self) -> Bench {
         let p = self.pins;
         let turned = Levels {
             miso: p.miso,
@@ -79,7 +79,7 @@ impl Bench {
         self.with_pins(turned).clock()
     }
 
-    pub fn edges(self, n: u16) -> Bench {
+    pub(crate) fn edges(self, n: u16) -> Bench {
         let mut b = self;
         for _ in 0..n {
             b = b.edge();

@@ -106,6 +106,6 @@ const CASES: [u64; 80] = [
     END,
 ];
 
-pub fn run() {
+pub(crate) fn run() {
     play(&CASES);
 }

@@ -2,7 +2,7 @@
 // it: DORD 0x20, MSTR 0x10, CPHA 0x04.
 
 // With CPHA 0 odd edges sample; with CPHA 1 even ones.
-pub fn samples(spcr: u8, edge: u8) -> bool {
+pub(crate) fn samples(spcr: u8, edge: u8) -> bool {
     if spcr / 4 % 2 == 0 {
         return edge % 2 == 1;
     }
@@ -10,7 +10,7 @@ pub fn samples(spcr: u8, edge: u8) -> bool {
 }
 
 // With CPHA 0 edges 2 to 14 put out the next bit; with CPHA 1 odd ones put out.
-pub fn puts(spcr: u8, edge: u8) -> bool {
+pub(crate) fn puts(spcr: u8, edge: u8) -> bool {
     if spcr / 4 % 2 == 0 {
         return edge % 2 == 0 && edge < 16;
     }
@@ -18,7 +18,7 @@ pub fn puts(spcr: u8, edge: u8) -> bool {
 }
 
 // With CPHA 0 the first bit is out at once.
-pub fn at_once(spcr: u8) -> bool {
+pub(crate) fn at_once(spcr: u8) -> bool {
     spcr / 4 % 2 == 0
 }
 
@@ -34,7 +34,7 @@ fn turned_round(x: u8) -> u8 {
 }
 
 // The bits of a byte in the order in which they leave, the first one on top. DORD 1 sends the low bit first.
-pub fn in_order(spcr: u8, x: u8) -> u8 {
+pub(crate) fn in_order(spcr: u8, x: u8) -> u8 {
     if spcr / 32 % 2 == 1 {
         return turned_round(x);
     }
@@ -42,7 +42,7 @@ pub fn in_order(spcr: u8, x: u8) -> u8 {
 }
 
 // Clocks before the one of an edge, by the clocks an edge; uneven ones go 3, 1, 4, 2, 0.
-pub fn pause(clocks: u8, edge: u8) -> u16 {
+pub(crate) fn pause(clocks: u8, edge: u8) -> u16 {
     if clocks == 0 {
         return edge as u16 * 3 % 5;
     }
@@ -50,7 +50,7 @@ pub fn pause(clocks: u8, edge: u8) -> u16 {
 }
 
 // The clock of edge 16. The uneven pauses of 16 edges are three times 10 clocks, and 3.
-pub fn spif_clock(clocks: u8) -> u16 {
+pub(crate) fn spif_clock(clocks: u8) -> u16 {
     if clocks == 0 {
         return 33 + 16;
     }

@@ -122,6 +122,6 @@ const CASES: [u64; 92] = [
     END,
 ];
 
-pub fn run() {
+pub(crate) fn run() {
     play(&CASES);
 }

@@ -171,6 +171,6 @@ const CASES: [u64; 135] = [
     END,
 ];
 
-pub fn run() {
+pub(crate) fn run() {
     play(&CASES);
 }

@@ -97,6 +97,6 @@ const CASES: [u64; 81] = [
     END,
 ];
 
-pub fn run() {
+pub(crate) fn run() {
     play(&CASES);
 }

@@ -140,6 +140,6 @@ const CASES: [u64; 115] = [
     END,
 ];
 
-pub fn run() {
+pub(crate) fn run() {
     play(&CASES);
 }

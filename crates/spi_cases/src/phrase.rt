@@ -59,7 +59,7 @@ fn write(n: u64) {
 }
 
 // A unit after reset and its first writes.
-pub fn reset(n: u64) {
+pub(crate) fn reset(n: u64) {
     text(b"reset");
     if n != 0 {
         byte(b", DDRB=", n / 0x100);
@@ -82,7 +82,7 @@ fn sends(n: u64) {
 }
 
 // What a step does.
-pub fn done(kind: u64, n: u64) {
+pub(crate) fn done(kind: u64, n: u64) {
     match kind {
         4 => pin(n),
         5 => counted(b", ", n, b" clock"),
@@ -100,7 +100,7 @@ fn got(n: u64) {
 }
 
 // What came out of it. An answer of 0, done, is not printed.
-pub fn came(kind: u64, n: u64) {
+pub(crate) fn came(kind: u64, n: u64) {
     match kind {
         7 => number(b" on clock ", n),
         8 => got(n),

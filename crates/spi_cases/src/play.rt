@@ -112,7 +112,7 @@ fn taken(c: Course, step: u64) -> Course {
     stepped(c, kind, step % KIND)
 }
 
-pub fn play(steps: &[u64]) {
+pub(crate) fn play(steps: &[u64]) {
     let mut c = new_course(0);
     let mut i = 0;
     while i < steps.len() {

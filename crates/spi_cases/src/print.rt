@@ -1,27 +1,27 @@
 // Words and numbers on standard output.
 use libc::STDOUT_FILENO;
 
-pub fn text(words: &[u8]) {
+pub(crate) fn text(words: &[u8]) {
     io::write_all(STDOUT_FILENO, words);
 }
 
-pub fn decimal(n: u64) {
+pub(crate) fn decimal(n: u64) {
     io::print_decimal(STDOUT_FILENO, n);
 }
 
-pub fn number(words: &[u8], n: u64) {
+pub(crate) fn number(words: &[u8], n: u64) {
     text(words);
     decimal(n);
 }
 
 // Two hexadecimal digits.
-pub fn byte(words: &[u8], n: u64) {
+pub(crate) fn byte(words: &[u8], n: u64) {
     text(words);
     io::print_hex(STDOUT_FILENO, n, 2);
 }
 
 // The end of a case's line.
-pub fn verdict(ok: bool) {
+pub(crate) fn verdict(ok: bool) {
     if ok {
         text(b": ok\n");
     } else {

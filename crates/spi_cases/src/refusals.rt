@@ -138,6 +138,6 @@ const CASES: [u64; 106] = [
     END,
 ];
 
-pub fn run() {
+pub(crate) fn run() {
     play(&CASES);
 }

@@ -68,6 +68,6 @@ const CASES: [u64; 43] = [
     END,
 ];
 
-pub fn run() {
+pub(crate) fn run() {
     play(&CASES);
 }

@@ -126,6 +126,6 @@ const CASES: [u64; 102] = [
     END,
 ];
 
-pub fn run() {
+pub(crate) fn run() {
     play(&CASES);
 }

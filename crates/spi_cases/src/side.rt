@@ -120,7 +120,7 @@ impl Side {
     }
 
     // The byte that came.
-    pub fn byte(self, spcr: u8) -> u8 {
+    pub(crate) fn byte(self, spcr: u8) -> u8 {
         in_order(spcr, self.got)
     }
 }
@@ -146,7 +146,7 @@ fn ready(b: Bench, spcr: u8, x: u8) -> Side {
 }
 
 // A byte sent to a unit, and one received from it.
-pub fn exchanged(b: Bench, spcr: u8, clocks: u8, x: u8) -> Side {
+pub(crate) fn exchanged(b: Bench, spcr: u8, clocks: u8, x: u8) -> Side {
     let side = ready(b, spcr, x);
     if is_master(spcr) {
         return side.follows(spcr, 16 * clocks as u16);

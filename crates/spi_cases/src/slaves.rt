@@ -181,6 +181,6 @@ const CASES: [u64; 156] = [
     END,
 ];
 
-pub fn run() {
+pub(crate) fn run() {
     play(&CASES);
 }

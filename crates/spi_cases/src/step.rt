@@ -78,10 +78,10 @@ pub const REPORT_IS: u64 = 10 * KIND + 0x5_00;
 pub const OUTPUT_IS: u64 = 10 * KIND + 0x6_00;
 
 // Digits of a step from place `at` on are byte_at or word_at of n / 16^at.
-pub fn byte_at(n: u64) -> u8 {
+pub(crate) fn byte_at(n: u64) -> u8 {
     (n % 0x100) as u8
 }
 
-pub fn word_at(n: u64) -> u16 {
+pub(crate) fn word_at(n: u64) -> u16 {
     (n % 0x1_0000) as u16
 }

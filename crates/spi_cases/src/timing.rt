@@ -108,6 +108,6 @@ const CASES: [u64; 91] = [
     END,
 ];
 
-pub fn run() {
+pub(crate) fn run() {
     play(&CASES);
 }
