@@ -11,7 +11,7 @@ use Rattle.choice.proofs.Picks.{pick-ind}
 use Rattle.frame.specs.Format.{samples}
 use Rattle.frame.specs.Word.{dataOf}
 use Rattle.usart.specs.Event.{Event, isUdr0}
-use Rattle.usart.specs.Line.{lineLevel}
+use Rattle.usart.specs.Line.{lineLevel, StartBefore}
 use Rattle.usart.specs.Read.{ucsr0a}
 use Rattle.usart.specs.Receiving.{bitAt}
 use Rattle.usart.specs.Sender.{isVacant}
@@ -124,6 +124,7 @@ sends d s cs m =
       begun = r .begun;
       fits = r .fits;
       spaced = r .spaced;
+      begins = subst (λ (os : List ℕ). StartBefore (length os) (r .begun)) (sym (txd-view s d cs v p o)) (r .begins);
       drives =
           subst (Drives (lineLevel (u .format) (samples (u .format) * (u .baud .ubrr + 1)) 1 (r .begun)) 0) (sym (txd-view s d cs v p o)) (r .drives);
       exactly =

@@ -4,10 +4,11 @@ use mathlib.Core.Bool.{true}
 use mathlib.Core.List.{List, [], _∷_, _++_, map}
 use mathlib.Core.Path.{_≡_}
 use lib.Dec.{eqb}
+use lib.ListN.{length}
 use Rattle.choice.specs.Pick.{pick}
 use Rattle.frame.specs.Format.{samples, wordBits}
 use Rattle.frame.specs.Word.{dataOf}
-use Rattle.usart.specs.Line.{Sent, lineLevel, Fits, Spaced}
+use Rattle.usart.specs.Line.{Sent, lineLevel, Fits, Spaced, StartBefore}
 use Rattle.usart.specs.Receiving.{bitAt}
 use Rattle.usart.specs.Sending.{waiting, Drives, dataIn}
 use Rattle.usart.specs.declared.sender.Shifter.the-variants.{Resting}
@@ -55,11 +56,12 @@ abbrev pub txdOf : List ℕ → List Call → List ℕ
 txdOf s [] = []
 txdOf s (c ∷ cs) = txdBy s c ++ txdOf (recordAfter s c) cs
 
--- TxD is a line with Q = 1 and P = S·(UBRR + 1), of exactly the frames that the buffer held at first or took, in order; the end of the
--- list may cut the last one begun or leave one in the buffer
+-- TxD is a line with Q = 1 and P = S·(UBRR + 1), of exactly the frames that the buffer held at first or took, in order, each begun within the
+-- list; its end may cut the last one begun or leave one in the buffer
 pub record Sends (d : Device) (s : List ℕ) (cs : List Call) : Type 0 where
   pub begun : List Sent
   pub fits : Fits (d .usart .format) begun
   pub spaced : Spaced (wordBits (d .usart .format)) (samples (d .usart .format) * (d .usart .baud .ubrr + 1)) 1 begun
+  pub begins : StartBefore (length (txdOf s cs)) begun
   pub drives : Drives (lineLevel (d .usart .format) (samples (d .usart .format) * (d .usart .baud .ubrr + 1)) 1 begun) 0 (txdOf s cs)
   pub exactly : map dataIn begun ++ waiting (usartOf (finalRecord s cs) .sender .buffer) ≡ waiting (d .usart .sender .buffer) ++ acceptedOf s cs

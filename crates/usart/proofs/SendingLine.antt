@@ -7,6 +7,7 @@ use native.Mathlib.Nat.{mul-le-mul-right, div-eq-of-lt-le, mul-pos, mod-lt}
 use native.Mathlib.Decide.{decLt}
 use native.Mathlib.Omega.{arith}
 use lib.Dec.{ltb}
+use lib.ListN.{length}
 use lib.Pow.{pow-pos}
 use borrow.Author.Tests.{ltb-true, ltb-false}
 use Rattle.choice.specs.Pick.{pick, digit}
@@ -20,7 +21,7 @@ use Rattle.usart.specs.Sender.{isVacant, bufferOf, begun, movedFrom, ste
 use Rattle.usart.specs.Unit.{clockOf, isDriven, outputOf, txcRequested}
 use Rattle.usart.specs.Write.{transmittedOf, writeOf, vectorOf}
 use Rattle.usart.specs.Event.{Event, clock, write, read, vector, settled, nextOf, finalOf, isRefused, isUdr0, OnlyData}
-use Rattle.usart.specs.Line.{Sent, lineLevel, Fits}
+use Rattle.usart.specs.Line.{Sent, lineLevel, Fits, StartBefore}
 use Rattle.usart.specs.Valid.{ValidBuffer}
 use Rattle.usart.specs.Sending.{MaySend, waiting, acceptedBy, acceptedOf, outputsOf, Drives, dataIn, Sends}
 use Rattle.usart.specs.declared.sender.Buffer.{Buffer}
@@ -99,6 +100,7 @@ module _ (f : Format) (ubrr : ℕ) where
     frames : List Sent
     fits : Fits f frames
     from : From D P 1 lo frames
+    begins : StartBefore (j + length (outputsOf u es)) frames
     drives : Drives (Line (cur ++ frames)) j (outputsOf u es)
     exactly : map dataIn frames ++ waiting (finalOf u es .sender .buffer) ≡ waiting (u .sender .buffer) ++ acceptedOf u es
 
@@ -107,6 +109,7 @@ module _ (f : Format) (ubrr : ℕ) where
     frames : List Sent
     fits : Fits f frames
     from : From D P 1 lo frames
+    begins : StartBefore (suc j + length (outputsOf v es)) frames
     now : outputOf v ≡ digit (Line (cur ++ frames) j) + 16
     drives : Drives (Line (cur ++ frames)) (suc j) (outputsOf v es)
     exactly : map dataIn frames ++ waiting (finalOf v es .sender .buffer) ≡ w ++ acceptedOf v es
@@ -144,6 +147,7 @@ module _ (f : Format) (ubrr : ℕ) where
         frames = r .frames;
         fits = r .fits;
         from = later D P 1 lo (suc j) (r .frames) (omega arith) (r .from);
+        begins = r .begins;
         now = output-driven v (st .txen) ∙ ap (λ (b : Bool). digit b + 16) high;
         drives = r .drives;
         exactly = r .exactly;
@@ -163,6 +167,7 @@ module _ (f : Format) (ubrr : ℕ) where
         frames = r .frames;
         fits = r .fits;
         from = r .from;
+        begins = r .begins;
         now = output-driven v (st .txen) ∙ ap (λ (b : Bool). digit b + 16) level;
         drives = r .drives;
         exactly = r .exactly;
@@ -186,6 +191,7 @@ module _ (f : Format) (ubrr : ℕ) where
         frames = s ∷ r .frames;
         fits = (vb, r .fits);
         from = (omega arith, later D P 1 (j * 1 + (D + 2) * P) (j + N * P) (r .frames) (omega arith) (r .from));
+        begins = (omega arith, r .begins);
         now = r .now;
         drives = r .drives;
         exactly = ap (λ (x : List ℕ). d ∷ x) (r .exactly ∙ ap (λ (x : Buffer). waiting x ++ acceptedOf v es) bu);
@@ -229,6 +235,7 @@ module _ (f : Format) (ubrr : ℕ) where
         frames = r .frames;
         fits = r .fits;
         from = r .from;
+        begins = r .begins;
         now = r .now ∙ ap (λ (b : Bool). digit b + 16) (gone j (omega arith));
         drives = drives-same (Line (r .frames)) (Line (s ∷ r .frames)) (suc j) (outputsOf v es) (λ x h. gone x (omega arith)) (r .drives);
         exactly = r .exactly;
@@ -348,6 +355,7 @@ module _ (f : Format) (ubrr : ℕ) where
     frames : List Sent
     fits : Fits f frames
     from : From D P 1 lo frames
+    begins : StartBefore (j + length (outputsOf v es)) frames
     drives : Drives (Line (cur ++ frames)) j (outputsOf v es)
     exactly : map dataIn frames ++ waiting (finalOf v es .sender .buffer) ≡ waiting (u .sender .buffer) ++ (w ++ acceptedOf v es)
 
@@ -360,6 +368,7 @@ module _ (f : Format) (ubrr : ℕ) where
         frames = r .frames;
         fits = r .fits;
         from = r .from;
+        begins = r .begins;
         drives = r .drives;
         exactly =
             r .exactly ∙ ap (λ (x : List ℕ). x ++ acceptedOf v es) (a .buffer)
@@ -367,29 +376,40 @@ module _ (f : Format) (ubrr : ℕ) where
       }
 
   claim : (es : List Event) → Claim es
-  claim [] = λ cur lo j u st pl vb on. record { frames = []; fits = tt; from = tt; drives = tt; exactly = sym (append-nil (waiting (u .sender .buffer))) }
+  claim [] = λ cur lo j u st pl vb on. record { frames = []; fits = tt; from = tt; begins = tt; drives = tt; exactly = sym (append-nil (waiting (u .sender .buffer))) }
   claim (clock l ∷ es) = λ cur lo j u st pl vb on.
       let r = clocked es (claim es) cur lo j u l st pl vb on (u .baud .left .0) refl in
-      record { frames = r .frames; fits = r .fits; from = r .from; drives = (r .now, r .drives); exactly = r .exactly }
+      let n : ℕ = length (outputsOf (clockOf u l) es) in
+      let e : suc j + n ≡ j + suc n = omega arith in
+      record {
+        frames = r .frames;
+        fits = r .fits;
+        from = r .from;
+        begins = subst (λ (J : ℕ). StartBefore J (r .frames)) e (r .begins);
+        drives = (r .now, r .drives);
+        exactly = r .exactly;
+      }
   claim (write x v ∷ es) = λ cur lo j u st pl vb on.
       let r = aside es (claim es) cur lo j u (nextOf u (write x v)) (acceptedBy u (write x v)) st pl (written u x v st vb (on .0)) (on .1) in
-      record { frames = r .frames; fits = r .fits; from = r .from; drives = r .drives; exactly = r .exactly }
+      record { frames = r .frames; fits = r .fits; from = r .from; begins = r .begins; drives = r .drives; exactly = r .exactly }
   claim (read x ∷ es) = λ cur lo j u st pl vb on.
       let r = aside es (claim es) cur lo j u (nextOf u (read x)) [] st pl (looked u x vb) on in
-      record { frames = r .frames; fits = r .fits; from = r .from; drives = r .drives; exactly = r .exactly }
+      record { frames = r .frames; fits = r .fits; from = r .from; begins = r .begins; drives = r .drives; exactly = r .exactly }
   claim (vector ∷ es) = λ cur lo j u st pl vb on.
       let r = aside es (claim es) cur lo j u (nextOf u vector) [] st pl (acknowledged u vb) on in
-      record { frames = r .frames; fits = r .fits; from = r .from; drives = r .drives; exactly = r .exactly }
+      record { frames = r .frames; fits = r .fits; from = r .from; begins = r .begins; drives = r .drives; exactly = r .exactly }
 
 -- TxD is a line of demand 3, of exactly the frames that the buffer held or took
 pub sends : (u : Usart) (es : List Event) → MaySend u es → Sends u es
 sends u es h =
     let f : Format = u .format in
     let r = claim f (u .baud .ubrr) es [] 0 0 u (record { format = refl; rate = refl; txen = h .enabled }) (resting (h .resting) (omega arith)) (h .buffer) (h .onlyData) in
+    let e : 0 + length (outputsOf u es) ≡ length (outputsOf u es) = omega arith in
     record {
       begun = r .frames;
       fits = r .fits;
       spaced = from-spaced (wordBits f) (samples f * (u .baud .ubrr + 1)) 1 (p1 f (u .baud .ubrr)) 0 (r .frames) (r .from);
+      begins = subst (λ (J : ℕ). StartBefore J (r .frames)) e (r .begins);
       drives = r .drives;
       exactly = r .exactly;
     }

@@ -3,13 +3,14 @@ use Prim.Native.Nat.{ℕ, suc, _+_, _*_}
 use mathlib.Core.Bool.{Bool, true}
 use mathlib.Core.List.{List, [], _∷_, _++_, map}
 use mathlib.Core.Path.{_≡_}
+use lib.ListN.{length}
 use Rattle.choice.specs.Pick.{pick, digit}
 use Rattle.frame.specs.Format.{samples, wordBits}
 use Rattle.frame.specs.Word.{dataOf}
 use Rattle.usart.specs.Sender.{isVacant}
 use Rattle.usart.specs.Unit.{clockOf, outputOf}
 use Rattle.usart.specs.Event.{Event, clock, write, read, vector, nextOf, finalOf, isUdr0, OnlyData}
-use Rattle.usart.specs.Line.{Sent, lineLevel, Fits, Spaced}
+use Rattle.usart.specs.Line.{Sent, lineLevel, Fits, Spaced, StartBefore}
 use Rattle.usart.specs.Valid.{ValidBuffer}
 use Rattle.usart.specs.declared.sender.Buffer.{Buffer}
 use Rattle.usart.specs.declared.sender.Buffer.the-variants.{Vacant, Full}
@@ -56,11 +57,12 @@ Drives w j (o ∷ os) = (o ≡ digit (w j) + 16) × Drives w (suc j) os
 abbrev pub dataIn : Sent → ℕ
 dataIn s = s .«data»
 
--- TxD is a line with Q = 1 and P = S·(UBRR + 1), of exactly the frames that the buffer held at first or took, in order; the end of the
--- list may cut the last one begun or leave one in the buffer
+-- TxD is a line with Q = 1 and P = S·(UBRR + 1), of exactly the frames that the buffer held at first or took, in order, each begun within the
+-- list; its end may cut the last one begun or leave one in the buffer
 pub record Sends (u : Usart) (es : List Event) : Type 0 where
   pub begun : List Sent
   pub fits : Fits (u .format) begun
   pub spaced : Spaced (wordBits (u .format)) (samples (u .format) * (u .baud .ubrr + 1)) 1 begun
+  pub begins : StartBefore (length (outputsOf u es)) begun
   pub drives : Drives (lineLevel (u .format) (samples (u .format) * (u .baud .ubrr + 1)) 1 begun) 0 (outputsOf u es)
   pub exactly : map dataIn begun ++ waiting (finalOf u es .sender .buffer) ≡ waiting (u .sender .buffer) ++ acceptedOf u es

@@ -15,7 +15,7 @@ returns : tie.Need-returns
 returns c = rw (c .enum-told .given .1)
 
 returns-2 : tie.Need-returns-2
-returns-2 c = rw (c .before .before .b .given .1, c .word .ensures)
+returns-2 c = simp (c .before .before .b .given .1, c .word .ensures)
 
 pub moved-spec : {M : Type 1} → statement M
 moved-spec = tie.close (tie.spec enum-told enum-known-b word-requires returns returns-2)
