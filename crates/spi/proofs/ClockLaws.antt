@@ -10,9 +10,9 @@ use Rattle.shifter.specs.Order.{outBit}
 use Rattle.shifter.specs.Edge.{edgeOf}
 use Rattle.shifter.specs.declared.Mode.{Mode}
 use Rattle.shifter.specs.declared.Shifter.{Shifter}
-use Rattle.spi.specs.Control.{isEnabled, isMaster, cpolOf, modeOf, half, isInput}
+use Rattle.spi.specs.Control.{isEnabled, isMaster, cpolOf, modeOf, half, isInput, isOverruled}
 use Rattle.spi.specs.Transfer.{droppedOf, onwardOf, completeOf, edgedOf}
-use Rattle.spi.specs.Clock.{raisedFlags, completedFlags, withLeft, withMiso, withTransfer, masterEdge, masterOf, faultOf, isEdge, presentedOf, slaveEdge, selectedOf, slaveOf, steppedOf, clockOf}
+use Rattle.spi.specs.Clock.{raisedFlags, completedFlags, withLeft, withMiso, withSck, withTransfer, masterEdge, masterOf, faultOf, isEdge, presentedOf, slaveEdge, selectedOf, slaveOf, steppedOf, clockOf}
 use Rattle.spi.specs.Event.{isKept}
 use Rattle.spi.specs.Exchange.{edgeAt, inputOf, outOf}
 use Rattle.spi.specs.declared.clock.Levels.{Levels}
@@ -22,10 +22,15 @@ use Rattle.spi.specs.declared.transfer.Transfer.{Transfer}
 use Rattle.spi.specs.declared.transfer.Edged.{Edged}
 use Rattle.spi.specs.declared.unit.Spi.{Spi}
 
--- the unit with the level of SCK kept
-abbrev pub seen : Spi → Bool → Spi
-seen s sck =
-    record { control = s .control; transfer = s .transfer; flags = s .flags; pins = record { mosi = s .pins .mosi; miso = s .pins .miso; sck = sck } }
+-- a master goes on unless another one selects it
+pub overruled-pick : {A : Type 0} (c : Control) (ss : Bool) (a b : A) → pick (isInput c) (pick ss a b) a ≡ pick (isOverruled c ss) b a
+unfolding isOverruled
+overruled-pick c ss a b = by (isInput c) ss
+  where
+    by : (p q : Bool) → pick p (pick q a b) a ≡ pick (pick p (not q) false) b a
+    by true true = refl
+    by true false = refl
+    by false q = refl
 
 -- MISO of a slave as a clock with SS low finds it at its edge
 abbrev pub shownMiso : Control → Transfer → Bool → Bool
@@ -76,12 +81,12 @@ module _ (s : Spi) (l : Levels) (on : isEnabled (s .control) ≡ true) (kept : i
       by x y false h = refl
 
   pub master-waits : isMaster (s .control) ≡ true → edgeAt s (l .sck) ≡ false
-      → clockOf s l ≡ seen (withLeft s (record { 0 = s .transfer .left .0 - 1 })) (l .sck)
+      → clockOf s l ≡ withSck (withLeft s (record { 0 = s .transfer .left .0 - 1 })) (l .sck)
   unfolding masterOf
   master-waits m e =
       let n : ℕ = s .transfer .left .0 in
       let one : eqb n 1 ≡ false = sym (ap (λ (b : Bool). pick b (eqb n 1) (isEdge (cpolOf (s .control)) (s .transfer .edges) (s .pins .sck) (l .sck))) m) ∙ e in
-      ap (λ (t : Spi). seen t (l .sck)) (stepped-master m ∙ by (eqb n 0) refl one)
+      ap (λ (t : Spi). withSck t (l .sck)) (stepped-master m ∙ by (eqb n 0) refl one)
     where
       by : (z : Bool) → eqb (s .transfer .left .0) 0 ≡ z → eqb (s .transfer .left .0) 1 ≡ false
           → masterOf s (l .miso) ≡ withLeft s (record { 0 = s .transfer .left .0 - 1 })
@@ -90,16 +95,16 @@ module _ (s : Spi) (l : Levels) (on : isEnabled (s .control) ≡ true) (kept : i
           rw (h, e)
       by false h one = rw (h, one)
 
-  pub master-edges : isMaster (s .control) ≡ true → edgeAt s (l .sck) ≡ true → clockOf s l ≡ seen (masterEdge s (l .miso)) (l .sck)
+  pub master-edges : isMaster (s .control) ≡ true → edgeAt s (l .sck) ≡ true → clockOf s l ≡ withSck (masterEdge s (l .miso)) (l .sck)
   unfolding masterOf
   master-edges m e =
       let n : ℕ = s .transfer .left .0 in
       let one : eqb n 1 ≡ true = sym (ap (λ (b : Bool). pick b (eqb n 1) (isEdge (cpolOf (s .control)) (s .transfer .edges) (s .pins .sck) (l .sck))) m) ∙ e in
       let w : masterOf s (l .miso) ≡ masterEdge s (l .miso) = rw (ne-eqb n 0 (λ q. omega (arith, eqb-true n 1 one)), one) in
-      ap (λ (t : Spi). seen t (l .sck)) (stepped-master m ∙ w)
+      ap (λ (t : Spi). withSck t (l .sck)) (stepped-master m ∙ w)
 
   slave-case : (x : Bool) → isMaster (s .control) ≡ false → edgeAt s (l .sck) ≡ x
-      → clockOf s l ≡ seen (pick x (slaveEdge (withMiso s (shownMiso (s .control) (s .transfer) (s .pins .miso))) (l .mosi))
+      → clockOf s l ≡ withSck (pick x (slaveEdge (withMiso s (shownMiso (s .control) (s .transfer) (s .pins .miso))) (l .mosi))
       (withMiso s (shownMiso (s .control) (s .transfer) (s .pins .miso)))) (l .sck)
   unfolding selectedOf
   slave-case x m e =
@@ -107,14 +112,14 @@ module _ (s : Spi) (l : Levels) (on : isEnabled (s .control) ≡ true) (kept : i
       sym (ap (λ (b : Bool). pick b (eqb (s .transfer .left .0) 1) (isEdge (cpolOf (s .control)) (s .transfer .edges) (s .pins .sck) (l .sck))) m) ∙ e in
       let p : Spi = withMiso s (shownMiso (s .control) (s .transfer) (s .pins .miso)) in
       let w : selectedOf s l ≡ pick x (slaveEdge p (l .mosi)) p = rw (i, presented-as s) in
-      ap (λ (t : Spi). seen t (l .sck)) (stepped-slave m ∙ w)
+      ap (λ (t : Spi). withSck t (l .sck)) (stepped-slave m ∙ w)
 
   pub slave-waits : isMaster (s .control) ≡ false → edgeAt s (l .sck) ≡ false
-      → clockOf s l ≡ seen (withMiso s (shownMiso (s .control) (s .transfer) (s .pins .miso))) (l .sck)
+      → clockOf s l ≡ withSck (withMiso s (shownMiso (s .control) (s .transfer) (s .pins .miso))) (l .sck)
   slave-waits m e = slave-case false m e
 
   pub slave-edges : isMaster (s .control) ≡ false → edgeAt s (l .sck) ≡ true
-      → clockOf s l ≡ seen (slaveEdge (withMiso s (shownMiso (s .control) (s .transfer) (s .pins .miso))) (l .mosi)) (l .sck)
+      → clockOf s l ≡ withSck (slaveEdge (withMiso s (shownMiso (s .control) (s .transfer) (s .pins .miso))) (l .mosi)) (l .sck)
   slave-edges m e = slave-case true m e
 
 -- the unit after a clock without an edge

@@ -7,10 +7,9 @@ use borrow.Author.Tests.{ne-eqb}
 use Rattle.spi.specs.Control.{isEnabled, isMaster, isInput}
 use Rattle.spi.specs.Flag.{isUp}
 use Rattle.spi.specs.Transfer.{isUnderWay, droppedOf}
-use Rattle.spi.specs.Clock.{withTransfer, faultOf, slaveOf, steppedOf, clockOf}
+use Rattle.spi.specs.Clock.{withSck, withTransfer, faultOf, slaveOf, steppedOf, clockOf}
 use Rattle.spi.specs.declared.clock.Levels.{Levels}
 use Rattle.spi.specs.declared.unit.Spi.{Spi}
-use Rattle.spi.proofs.ClockLaws.{seen}
 use Rattle.spi.proofs.Progress.{raised-up}
 
 -- between two bytes, with the shift register and what is out as in s
@@ -27,7 +26,7 @@ module _ (s : Spi) (l : Levels) (on : isEnabled (s .control) ≡ true) where
   unfolding steppedOf slaveOf isUnderWay
   deselected m h =
       let w : steppedOf s l ≡ withTransfer s (droppedOf (s .transfer)) = rw (on, m, h) refl in
-      subst (λ (t : Spi). Dropped s (seen t (l .sck))) (sym w) (record { idle = refl; shift = refl; received = refl; mosi = refl; miso = refl })
+      subst (λ (t : Spi). Dropped s (withSck t (l .sck))) (sym w) (record { idle = refl; shift = refl; received = refl; mosi = refl; miso = refl })
 
   -- SS an input and low at a master
   pub faulted : isMaster (s .control) ≡ true → isInput (s .control) ≡ true → l .ss ≡ false
@@ -37,7 +36,7 @@ module _ (s : Spi) (l : Levels) (on : isEnabled (s .control) ≡ true) where
       let w : steppedOf s l ≡ faultOf s = rw (on, m, i, h) refl in
       let n : ℕ = s .control .spcr in
       subst
-      (λ (t : Spi). Dropped s (seen t (l .sck)) × ((isMaster (t .control) ≡ false) × (isUp (t .flags .spif) ≡ true)))
+      (λ (t : Spi). Dropped s (withSck t (l .sck)) × ((isMaster (t .control) ≡ false) × (isUp (t .flags .spif) ≡ true)))
       (sym w) (
         record { idle = refl; shift = refl; received = refl; mosi = refl; miso = refl },
         (ne-eqb ((n / 32 * 32 + n % 16) / 16 % 2) 1 (λ q. omega arith), raised-up (s .flags .spif)),

@@ -4,6 +4,7 @@ pub mod ValidLaws
 pub mod EventLaws
 pub mod Progress
 pub mod DropLaws
+pub mod EdgeLaws
 pub mod WholeByte
 pub mod Transfers
 pub mod BusLaws

@@ -52,6 +52,15 @@ masterOf s miso =
     (pick (eqb (s .transfer .left .0) 1) (masterEdge s miso)
     (withLeft s (record { 0 = s .transfer .left .0 - 1 })))
 
+-- the level of SCK at this clock, kept for the next
+abbrev pub withSck : Spi → Bool → Spi
+withSck s b =
+    record { control = s .control; transfer = s .transfer; flags = s .flags; pins = record { mosi = s .pins .mosi; miso = s .pins .miso; sck = b } }
+
+-- a clock of a master that SS cannot make a slave
+abbrev pub commandedOf : Spi → Levels → Spi
+commandedOf s l = withSck (masterOf s (l .miso)) (l .sck)
+
 -- a master with SS an input and low becomes slave: MSTR cleared, SPIF set, transfer dropped; no edge counts and nothing is put out
 abbrev pub faultOf : Spi → Spi
 faultOf s =
@@ -97,6 +106,4 @@ steppedOf s l =
 
 -- the SCK level is kept at every clock
 abbrev pub clockOf : Spi → Levels → Spi
-clockOf s l =
-    let n : Spi = steppedOf s l in
-    record { control = n .control; transfer = n .transfer; flags = n .flags; pins = record { mosi = n .pins .mosi; miso = n .pins .miso; sck = l .sck } }
+clockOf s l = withSck (steppedOf s l) (l .sck)

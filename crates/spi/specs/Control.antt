@@ -1,6 +1,6 @@
 -- The bits of SPCR, SPI2X and DDRB (bit places by source 004; document 01, 'Registers and their writes').
 use Prim.Native.Nat.{ℕ, _+_, _*_, _/_, _%_}
-use mathlib.Core.Bool.{Bool}
+use mathlib.Core.Bool.{Bool, false, not}
 use lib.Dec.{eqb}
 use Rattle.choice.specs.Pick.{pick}
 use Rattle.shifter.specs.declared.Mode.{Mode}
@@ -45,3 +45,7 @@ isInput c = eqb (c .ddrb / 4 % 2) 0
 -- bit n of DDRB, by its weight: the pin is an output
 abbrev pub drives : Control → ℕ → Bool
 drives c w = eqb (c .ddrb / w % 2) 1
+
+-- another master selects this one: SS is an input and low
+unfoldable pub isOverruled : Control → Bool → Bool
+isOverruled c ss = pick (isInput c) (not ss) false

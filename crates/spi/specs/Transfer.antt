@@ -18,6 +18,10 @@ isUnderWay t = pick (eqb (t .edges) 0) (not (eqb (t .left .0) 0)) true
 abbrev pub droppedOf : Transfer → Transfer
 droppedOf t = record { shift = t .shift; received = t .received; edges = 0; left = record { 0 = 0 } }
 
+-- the edge that comes next, of 16
+unfoldable pub nextEdge : Transfer → ℕ
+nextEdge t = pick (ltb (t .edges) 15) (t .edges + 1) 16
+
 -- after edge k, which is not the last
 abbrev pub onwardOf : Transfer → ℕ → Shifter → Clocks → Edged
 onwardOf t k s left =

@@ -5,8 +5,9 @@ use crate::transfer::Transfer;
 use crate::unit::Pins;
 use crate::unit::Spi;
 use crate::unit::differs;
+use shifter::Shifter;
 ghost use mathlib.Core.Path.{_≡_};
-ghost use Rattle.spi.specs.Clock.{raisedFlags, completedFlags, withLeft, withMiso, withTransfer, masterEdge, masterOf, faultOf, isEdge, presentedOf, slaveEdge, selectedOf, slaveOf, steppedOf, clockOf};
+ghost use Rattle.spi.specs.Clock.{raisedFlags, completedFlags, withMiso, withSck, commandedOf, withTransfer, masterEdge, masterOf, faultOf, isEdge, presentedOf, slaveEdge, selectedOf, slaveOf, steppedOf, clockOf};
 
 // The levels of the pins at a clock.
 pub struct Levels {
@@ -49,60 +50,48 @@ fn edge_seen(cpol: bool, edges: u8, last: bool, sck: bool) -> bool
 }
 
 impl Spi {
-    fn master_edge(self, miso: bool) -> Spi
+    // Written over the fields, and not by `edged`: in a run of a master every clock may be an edge, and copies of the transfer cost more than
+    // the edge does.
+    fn master_edge(mut self, miso: bool) -> Spi
         ensures { λ r. ⌜ r ≡ masterEdge self miso ⌝ }
     {
         let c = self.control;
-        let p = self.pins;
-        let n = half(c.divisor_number());
-        let e = self.transfer.edged(c.mode(), p.mosi, miso, Clocks(n));
-        let t = e.transfer;
-        let f = self.flags.completed(e.complete);
-        Spi {
-            control: c,
-            transfer: t,
-            flags: f,
-            pins: Pins {
-                mosi: e.out,
-                miso: p.miso,
-                sck: p.sck,
-            },
-        }
-    }
-
-    fn with_left(self, n: Clocks) -> Spi
-        ensures { λ r. ⌜ r ≡ withLeft self n ⌝ }
-    {
-        let c = self.control;
-        let t = self.transfer;
-        let f = self.flags;
-        let p = self.pins;
-        let u = Transfer {
-            shift: t.shift,
-            received: t.received,
-            edges: t.edges,
-            left: n,
+        let n = self.transfer.next_edge();
+        let s = Shifter {
+            shift: self.transfer.shift,
+            out: self.pins.mosi,
         };
-        Spi {
-            control: c,
-            transfer: u,
-            flags: f,
-            pins: p,
+        let r = c.mode().edge(s, n, miso);
+        self.transfer.shift = r.shift;
+        self.pins.mosi = r.out;
+        if n < 16 {
+            let h = half(c.divisor_number());
+            self.transfer.edges = n;
+            self.transfer.left.0 = h;
+            return self;
         }
+        let f = self.flags.raised();
+        self.transfer.received = r.shift;
+        self.transfer.edges = 0;
+        self.transfer.left.0 = 0;
+        self.flags = f;
+        self
     }
 
     // A clock of the master: its clocks to the next edge run down.
-    fn mastered(self, miso: bool) -> Spi
+    fn mastered(mut self, miso: bool) -> Spi
         ensures { λ r. ⌜ r ≡ masterOf self miso ⌝ }
     {
-        let n = self.transfer.left;
-        if n.0 == 0 {
+        let n = self.transfer.left.0;
+        if n == 0 {
             return self;
         }
-        if n.0 == 1 {
+        if n == 1 {
             return self.master_edge(miso);
         }
-        self.with_left(Clocks(n.0 - 1))
+        let m = n - 1;
+        self.transfer.left.0 = m;
+        self
     }
 
     // A master that loses SS becomes a slave.
@@ -218,10 +207,7 @@ impl Spi {
         let c = self.control;
         if c.enabled() {
             if c.master() {
-                if c.ss_input() {
-                    if l.ss {
-                        return self.mastered(l.miso);
-                    }
+                if c.overruled(l.ss) {
                     return self.faulted();
                 }
                 return self.mastered(l.miso);
@@ -231,24 +217,24 @@ impl Spi {
         self
     }
 
+    fn with_sck(mut self, sck: bool) -> Spi
+        ensures { λ r. ⌜ r ≡ withSck self sck ⌝ }
+    {
+        self.pins.sck = sck;
+        self
+    }
+
+    // One clock of a master that SS cannot make a slave.
+    pub fn commanded(self, l: Levels) -> Spi
+        ensures { λ r. ⌜ r ≡ commandedOf self l ⌝ }
+    {
+        self.mastered(l.miso).with_sck(l.sck)
+    }
+
     // One clock, with the levels of the pins; that of SCK is kept at every clock.
     pub fn clock(self, l: Levels) -> Spi
         ensures { λ r. ⌜ r ≡ clockOf self l ⌝ }
     {
-        let s = self.stepped(l);
-        let c = s.control;
-        let t = s.transfer;
-        let f = s.flags;
-        let p = s.pins;
-        Spi {
-            control: c,
-            transfer: t,
-            flags: f,
-            pins: Pins {
-                mosi: p.mosi,
-                miso: p.miso,
-                sck: l.sck,
-            },
-        }
+        self.stepped(l).with_sck(l.sck)
     }
 }

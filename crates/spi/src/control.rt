@@ -1,6 +1,6 @@
 use shifter::Mode;
 ghost use mathlib.Core.Path.{_≡_};
-ghost use Rattle.spi.specs.Control.{isEnabled, isMaster, cpolOf, modeOf, numberOf, withoutMstr, isInput};
+ghost use Rattle.spi.specs.Control.{isEnabled, isMaster, cpolOf, modeOf, numberOf, withoutMstr, isInput, isOverruled};
 
 // SPCR, SPI2X of SPSR, and DDRB.
 pub struct Control {
@@ -67,5 +67,15 @@ impl Control {
         ensures { λ r. ⌜ r ≡ isInput self ⌝ }
     {
         self.ddrb / 4 % 2 == 0
+    }
+
+    // Another master selects this one: SS is an input and low.
+    pub fn overruled(self, ss: bool) -> bool
+        ensures { λ r. ⌜ r ≡ isOverruled self ss ⌝ }
+    {
+        if self.ss_input() {
+            return !ss;
+        }
+        false
     }
 }

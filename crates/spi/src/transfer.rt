@@ -2,7 +2,7 @@ use crate::divisor::Clocks;
 use shifter::Mode;
 use shifter::Shifter;
 ghost use mathlib.Core.Path.{_≡_};
-ghost use Rattle.spi.specs.Transfer.{isUnderWay, droppedOf, edgedOf};
+ghost use Rattle.spi.specs.Transfer.{isUnderWay, droppedOf, nextEdge, edgedOf};
 
 // The shift register, the receive buffer, edges of the byte under way that have passed, and a master's clocks to the next one.
 pub struct Transfer {
@@ -39,6 +39,13 @@ impl Transfer {
             edges: 0,
             left: Clocks(0),
         }
+    }
+
+    // The number of the next edge.
+    pub fn next_edge(self) -> u8
+        ensures { λ r. ⌜ r ≡ nextEdge self ⌝ }
+    {
+        if self.edges < 15 { self.edges + 1 } else { 16 }
     }
 
     // The next edge, with the bit that is out, the level of the input and the clocks to the edge after it.

@@ -8,25 +8,23 @@ use Rattle.spi.proofs.unit.Spi.mastered.Tie as tie
 
 returns : tie.Need-returns
 unfolding masterOf
-returns c = (pick-true _ _ _ _ (eq-eqb _ _ (c .if1 .taken)) refl)
+returns c = pick-true _ _ _ _ (eq-eqb _ _ (c .if1 .taken)) refl
 
 master-edge-requires : tie.Need-master-edge-requires
 master-edge-requires c κs = search needs
 
 returns-2 : tie.Need-returns-2
 unfolding masterOf
-returns-2 c = (pick-false _ _ _ _ (ne-eqb _ _ (c .before .before .before .if1 .left)) ((pick-true _ _ _ _ (eq-eqb _ _ (c .before .if2 .taken)) (c .master-edge .ensures))))
+returns-2 c =
+    pick-false _ _ _ _ (ne-eqb _ _ (c .before .before .if1 .left)) (pick-true _ _ _ _ (eq-eqb _ _ (c .before .if2 .taken)) (c .master-edge .ensures))
 
-sub-t5 : tie.Need-sub-t5
-sub-t5 c = search needs
-
-with-left-requires : tie.Need-with-left-requires
-with-left-requires c κs = search needs
+sub-m : tie.Need-sub-m
+sub-m c = search needs
 
 returns-3 : tie.Need-returns-3
 unfolding masterOf
-returns-3 c = (pick-false _ _ _ _ (ne-eqb _ _ (c .before .before .before .before .if1 .left)) ((pick-false _ _ _ _ (ne-eqb _ _ (c .before .before .if2 .left)) (c .with-left .ensures))))
+returns-3 c =
+    pick-false _ _ _ _ (ne-eqb _ _ (c .before .before .if1 .left)) (pick-false _ _ _ _ (ne-eqb _ _ (c .before .if2 .left)) refl)
 
 pub mastered-spec : {M : Type 1} → statement M
-mastered-spec =
-    tie.close (tie.spec returns master-edge-requires returns-2 sub-t5 with-left-requires returns-3)
+mastered-spec = tie.close (tie.spec returns master-edge-requires returns-2 sub-m returns-3)

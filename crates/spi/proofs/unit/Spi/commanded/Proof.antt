@@ -1,0 +1,15 @@
+use borrow.Author.Needs.{needs}
+use Rattle.spi.proofs.unit.Spi.commanded.Statement.{statement}
+use Rattle.spi.proofs.unit.Spi.commanded.Tie as tie
+
+mastered-requires : tie.Need-mastered-requires
+mastered-requires c κs = search needs
+
+with-sck-requires : tie.Need-with-sck-requires
+with-sck-requires c κs = search needs
+
+returns : tie.Need-returns
+returns c = rw (c .with-sck .ensures, c .before .mastered .ensures)
+
+pub commanded-spec : {M : Type 1} → statement M
+commanded-spec = tie.close (tie.spec mastered-requires with-sck-requires returns)
