@@ -5,6 +5,7 @@ pub mod EventLaws
 pub mod Progress
 pub mod DropLaws
 pub mod EdgeLaws
+pub mod CommandLaws
 pub mod WholeByte
 pub mod Transfers
 pub mod BusLaws

@@ -49,3 +49,7 @@ drives c w = eqb (c .ddrb / w % 2) 1
 -- another master selects this one: SS is an input and low
 unfoldable pub isOverruled : Control → Bool → Bool
 isOverruled c ss = pick (isInput c) (not ss) false
+
+-- a master that SS cannot make a slave: SPE and MSTR are set, and SS is an output
+unfoldable pub isCommanding : Control → Bool
+isCommanding c = pick (isEnabled c) (pick (isMaster c) (not (isInput c)) false) false

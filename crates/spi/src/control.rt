@@ -1,6 +1,6 @@
 use shifter::Mode;
 ghost use mathlib.Core.Path.{_≡_};
-ghost use Rattle.spi.specs.Control.{isEnabled, isMaster, cpolOf, modeOf, numberOf, withoutMstr, isInput, isOverruled};
+ghost use Rattle.spi.specs.Control.{isEnabled, isMaster, cpolOf, modeOf, numberOf, withoutMstr, isInput, isOverruled, isCommanding};
 
 // SPCR, SPI2X of SPSR, and DDRB.
 pub struct Control {
@@ -75,6 +75,18 @@ impl Control {
     {
         if self.ss_input() {
             return !ss;
+        }
+        false
+    }
+
+    // A master that SS cannot make a slave: SPE and MSTR are set, and SS is an output.
+    pub fn commands(self) -> bool
+        ensures { λ r. ⌜ r ≡ isCommanding self ⌝ }
+    {
+        if self.enabled() {
+            if self.master() {
+                return !self.ss_input();
+            }
         }
         false
     }

@@ -1,0 +1,40 @@
+use mathlib.Core.Bool.{not}
+use mathlib.Core.Path.{ap}
+use Rattle.choice.proofs.Picks.{picks, pick-true}
+use Rattle.spi.specs.Control.{isCommanding}
+use borrow.Author.Needs.{needs}
+use Rattle.spi.proofs.control.Control.commands.Statement.{statement}
+use Rattle.spi.proofs.control.Control.commands.Tie as tie
+use Rattle.spi.proofs.control.Control.commands.Reads as reads
+use Rattle.spi.proofs.control.Control.commands.Lts as lts
+use Rattle.spi.proofs.control.Control.enabled.Reads as enabled-reads
+use Rattle.spi.proofs.control.Control.master.Reads as master-reads
+use Rattle.spi.proofs.control.Control.ss_input.Reads as ss-input-reads
+
+enabled-requires : tie.Need-enabled-requires
+enabled-requires c κs = search needs
+
+master-requires : tie.Need-master-requires
+master-requires c κs = search needs
+
+ss-input-requires : tie.Need-ss-input-requires
+ss-input-requires c κs = search needs
+
+returns : tie.Need-returns
+unfolding isCommanding
+returns c =
+    rw (← c .before .before .before .before .enabled .ensures, ← c .before .before .master .ensures)
+    (pick-true _ _ _ _ (c .before .before .before .if1 .taken) (pick-true _ _ _ _ (c .before .if2 .taken) (ap not (c .ss-input .ensures))))
+
+returns-2 : tie.Need-returns-2
+unfolding isCommanding
+returns-2 c = search picks
+
+returns-3 : tie.Need-returns-3
+unfolding isCommanding
+returns-3 c = search picks
+
+pub commands-spec : {M : Type 1} → statement M
+commands-spec =
+    tie.close
+    (tie.spec enabled-requires master-requires ss-input-requires returns returns-2 returns-3)
