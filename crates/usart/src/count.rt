@@ -1,3 +1,5 @@
+// Clocks that only count, many at once. The `counted` functions require that n is at most what `quiet` says, so that no count runs over; the
+// format that they take stands in that alone.
 use crate::baud::Baud;
 use crate::baud::Clocks;
 use crate::receiver::Receiver;
@@ -46,7 +48,7 @@ impl Sample {
         Sample(self.0 + n as u8)
     }
 
-    // As the number of samples that have been taken of a bit that is received.
+    // Of a bit that is received, with so many samples taken.
     fn quiet(self, f: Format) -> usize
         ensures { λ r. ⌜ r ≡ bitQuiet f (self .0) ⌝ }
     {
