@@ -13,3 +13,4 @@ pub mod Witness
 pub mod OutputLaws
 pub mod AppendLaws
 pub mod RefusalLaws
+pub mod CountingLaws

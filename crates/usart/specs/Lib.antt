@@ -13,3 +13,4 @@ pub mod Line
 pub mod Receiving
 pub mod Sending
 pub mod Refusing
+pub mod Counting

@@ -1,6 +1,7 @@
 // USART0 in asynchronous mode: baud clock, sender, sampler, receive queue and serial registers. It knows nothing of the SPI or of the
 // record's bytes.
 mod baud;
+mod count;
 mod queue;
 mod read;
 mod receiver;
@@ -13,6 +14,7 @@ mod write;
 
 pub use baud::Baud;
 pub use baud::Clocks;
+pub use count::Skipped;
 pub use queue::Frame;
 pub use queue::Places;
 pub use queue::Queue;

@@ -1,7 +1,7 @@
 use crate::sample::Sample;
 use frame::Format;
 ghost use mathlib.Core.Path.{_≡_};
-ghost use Rattle.usart.specs.Sender.{isVacant, isResting, movedOf, atOf, steppedOf, senderOf, txdOf, filledOf, acknowledgedOf};
+ghost use Rattle.usart.specs.Sender.{isVacant, isResting, movedOf, atOf, senderOf, txdOf, filledOf, acknowledgedOf};
 
 // The transmit buffer.
 pub enum Buffer {
@@ -87,34 +87,33 @@ impl Sender {
         }
     }
 
-    fn stepped(self, t: Transmission, f: Format) -> Sender
-        ensures { λ r. ⌜ r ≡ steppedOf f self t ⌝ }
-    {
-        if t.sample.0 < f.samples() - 1 {
-            return self.at(Transmission {
-                word: t.word,
-                bit: t.bit,
-                sample: Sample(t.sample.0 + 1),
-            });
-        }
-        if t.bit < f.last_bit() {
-            return self.at(Transmission {
-                word: t.word,
-                bit: t.bit + 1,
-                sample: Sample(0),
-            });
-        }
-        self.moved(f, true)
-    }
-
+    // A shifter at rest and a frame's end share one call of `moved`: called from one place it is inlined, which a run's speed rests on.
     pub fn tick(self, f: Format) -> Sender
         ensures { λ r. ⌜ r ≡ senderOf f self ⌝ }
     {
         let s = self.shifter;
+        let mut txc = self.txc;
         match s {
-            Shifter::Resting => self.moved(f, self.txc),
-            Shifter::Sending(t) => self.stepped(t, f),
+            Shifter::Resting => {}
+            Shifter::Sending(t) => {
+                if t.sample.0 < f.samples() - 1 {
+                    return self.at(Transmission {
+                        word: t.word,
+                        bit: t.bit,
+                        sample: Sample(t.sample.0 + 1),
+                    });
+                }
+                if t.bit < f.last_bit() {
+                    return self.at(Transmission {
+                        word: t.word,
+                        bit: t.bit + 1,
+                        sample: Sample(0),
+                    });
+                }
+                txc = true;
+            }
         }
+        self.moved(f, txc)
     }
 
     // The level of TxD, driven or not.

@@ -1,0 +1,47 @@
+use mathlib.Core.Path.{refl}
+use borrow.Author.Tests.{eq-eqb, ne-eqb}
+use Rattle.choice.proofs.Picks.{pick-true, pick-false}
+use Rattle.usart.specs.Counting.{quietOf}
+use borrow.Author.Needs.{needs}
+use Rattle.usart.proofs.unit.Usart.quiet.Statement.{statement}
+use Rattle.usart.proofs.unit.Usart.quiet.Tie as tie
+
+ticks-requires : tie.Need-ticks-requires
+ticks-requires c κs = search needs
+
+quiet-requires : tie.Need-quiet-requires
+quiet-requires c κs = search needs
+
+quiet-requires-2 : tie.Need-quiet-requires-2
+quiet-requires-2 c κs = search needs
+
+least-requires : tie.Need-least-requires
+least-requires c κs = search needs
+
+returns : tie.Need-returns
+unfolding quietOf
+returns c = rw (← c .before .before .before .before .before .before .ticks .ensures) (pick-true _ _ _ _ (c .before .before .before .before .before .if1 .taken) (pick-true _ _ _ _ (eq-eqb _ _ (c .before .before .before .if2 .taken)) (rw (← c .before .before .quiet .ensures, ← c .before .quiet2 .ensures) (c .least .ensures))))
+
+returns-2 : tie.Need-returns-2
+unfolding quietOf
+returns-2 c = rw (← c .before .before .before .ticks .ensures) (pick-true _ _ _ _ (c .before .before .if1 .taken) (pick-false _ _ _ _ (ne-eqb _ _ (c .if2 .left)) refl))
+
+cast-result : tie.Need-cast-result
+cast-result c = search needs
+
+returns-3 : tie.Need-returns-3
+unfolding quietOf
+returns-3 c = rw (← c .before .before .ticks .ensures) (pick-false _ _ _ _ (c .before .if1 .left) refl)
+
+pub quiet-spec : {M : Type 1} → statement M
+quiet-spec =
+    tie.close
+    (tie.spec
+    ticks-requires
+    quiet-requires
+    quiet-requires-2
+    least-requires
+    returns
+    returns-2
+    cast-result
+    returns-3)
