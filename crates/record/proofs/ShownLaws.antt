@@ -1,0 +1,230 @@
+-- The tests of `isShown` come to the comparison of a record with the image of the device that it says. Assumes nothing.
+use Prim.Native.Nat.{ℕ, zero, suc, _+_, _*_, _%_, _<_, _≤_}
+use mathlib.Core.Bool.{Bool, true, false, not, _&&_, _||_}
+use mathlib.Core.List.{List, [], _∷_}
+use mathlib.Core.Path.{_≡_, refl, sym, ap, ap₂, subst, _∙_}
+use native.Mathlib.Omega.{arith}
+use lib.Dec.{eqb, ltb}
+use lib.ListN.{length, getD}
+use borrow.Author.Tests.{eqb-true, eqb-false, ltb-true, ltb-false, eq-eqb, ne-eqb, lt-ltb, le-ltb}
+use Rattle.choice.specs.Pick.{pick}
+use Rattle.choice.proofs.Picks.{split}
+use Rattle.usart.specs.Settings.{codeOf, sizeOf, upmOf, parityOf}
+use Rattle.usart.specs.Sender.{isVacant, isResting}
+use Rattle.usart.specs.Sampler.{isReceiving}
+use Rattle.usart.specs.Queue.{noFrame, oldestOf}
+use Rattle.usart.specs.declared.sender.Transmission.{Transmission}
+use Rattle.usart.specs.declared.sampler.Reception.{Reception}
+use Rattle.usart.specs.declared.queue.Frame.{Frame}
+use Rattle.record.specs.Codes.{knownSize, flagCode, flagOf}
+use Rattle.record.specs.Parts.{dataIn, bufferOf, transmissionIn, shifterOf, rememberedIn, receptionIn, samplerOf, heldCount, secondIn, placesOf}
+use Rattle.record.specs.Layout.{low, high, bit, imageOf}
+use Rattle.record.specs.Lift.{deviceAt}
+use Rattle.record.specs.Shown.{isFlag, isZero, isSizeCode, isUpm, isFlagCode, isShown}
+use Rattle.record.specs.Codec.{eqList}
+
+-- one place of the record: whether the byte of the image is the record's
+
+-- a number that is tested to be k, as k
+at : (P : ℕ → Type 0) (x k : ℕ) → P k → eqb x k ≡ true → P x
+at P x k p e = subst P (sym (eqb-true x k e)) p
+
+zero-place : (x : ℕ) → eqb 0 x ≡ isZero x
+zero-place x =
+    split (eqb x 0) (at (λ (k : ℕ). eqb 0 k ≡ isZero k) x 0 refl)
+    (λ e. let n = eqb-false x 0 e in ne-eqb 0 x (λ q. n (sym q)) ∙ sym e)
+
+low-place : (x y : ℕ) → x < 256 → eqb (low (x % 256 + 256 * (y % 256))) x ≡ true
+low-place x y h = eq-eqb (low (x % 256 + 256 * (y % 256))) x (omega arith)
+
+high-place : (x y : ℕ) → y < 256 → eqb (high (x % 256 + 256 * (y % 256))) y ≡ true
+high-place x y h = eq-eqb (high (x % 256 + 256 * (y % 256))) y (omega arith)
+
+same-place : (x : ℕ) → eqb x x ≡ true
+same-place x = eq-eqb x x refl
+
+flag-place : (x : ℕ) → eqb (bit (eqb x 1)) x ≡ isFlag x
+flag-place x =
+    split (eqb x 0) (at (λ (k : ℕ). eqb (bit (eqb k 1)) k ≡ isFlag k) x 0 refl)
+    (λ z. split (eqb x 1) (at (λ (k : ℕ). eqb (bit (eqb k 1)) k ≡ isFlag k) x 1 refl)
+    (λ e.
+    let n = eqb-false x 0 z in
+    let m = eqb-false x 1 e in
+    rw (e, le-ltb x 2 (omega arith), ne-eqb 0 x (omega arith))))
+
+size-place : (x : ℕ) → eqb (codeOf (knownSize x)) x ≡ isSizeCode x
+unfolding sizeOf
+size-place x =
+    let P : ℕ → Type 0 = λ k. eqb (codeOf (knownSize k)) k ≡ isSizeCode k in
+    split (eqb x 0) (at P x 0 refl)
+    (λ a. split (eqb x 1) (at P x 1 refl)
+    (λ b. split (eqb x 2) (at P x 2 refl)
+    (λ c. split (eqb x 3) (at P x 3 refl)
+    (λ d. split (eqb x 7) (at P x 7 refl)
+    (λ e.
+    let a' = eqb-false x 0 a in
+    let b' = eqb-false x 1 b in
+    let c' = eqb-false x 2 c in
+    let d' = eqb-false x 3 d in
+    rw (a, b, c, d, e, le-ltb x 4 (omega arith), ne-eqb 3 x (omega arith)))))))
+
+upm-place : (x : ℕ) → eqb (upmOf (parityOf x)) x ≡ isUpm x
+unfolding parityOf
+upm-place x =
+    let P : ℕ → Type 0 = λ k. eqb (upmOf (parityOf k)) k ≡ isUpm k in
+    split (eqb x 2) (at P x 2 refl) (λ a. split (eqb x 3) (at P x 3 refl) (λ b. split (eqb x 0) (at P x 0 refl)
+    (λ c. let n = eqb-false x 0 c in rw (a, b, c, ne-eqb 0 x (omega arith)))))
+
+flag-code-place : (x : ℕ) → eqb (flagCode (flagOf x)) x ≡ isFlagCode x
+unfolding flagOf
+flag-code-place x =
+    let P : ℕ → Type 0 = λ k. eqb (flagCode (flagOf k)) k ≡ isFlagCode k in
+    split (eqb x 0) (at P x 0 refl)
+    (λ a. split (eqb x 1) (at P x 1 refl)
+    (λ b. split (eqb x 2) (at P x 2 refl)
+    (λ c.
+    let a' = eqb-false x 0 a in
+    let b' = eqb-false x 1 b in
+    let c' = eqb-false x 2 c in
+    rw (b, c, le-ltb x 3 (omega arith), ne-eqb 0 x (omega arith)))))
+
+held-place : (x : ℕ) (a b : Frame) → eqb (heldCount (placesOf x a b)) x ≡ ltb x 3
+unfolding placesOf
+held-place x a b =
+    let P : ℕ → Type 0 = λ k. eqb (heldCount (placesOf k a b)) k ≡ ltb k 3 in
+    split (eqb x 0) (at P x 0 refl)
+    (λ c. split (eqb x 1) (at P x 1 refl)
+    (λ d. split (eqb x 2) (at P x 2 refl)
+    (λ e.
+    let c' = eqb-false x 0 c in
+    let d' = eqb-false x 1 d in
+    let e' = eqb-false x 2 e in
+    rw (c, d, le-ltb x 3 (omega arith), ne-eqb 2 x (omega arith)))))
+
+buffer-full : (t : Bool) (w : ℕ) → not (isVacant (bufferOf t w)) ≡ t
+unfolding bufferOf
+buffer-full true w = refl
+buffer-full false w = refl
+
+full-place : (x w : ℕ) → eqb (bit (not (isVacant (bufferOf (eqb x 1) w)))) x ≡ isFlag x
+full-place x w = ap (λ (t : Bool). eqb (bit t) x) (buffer-full (eqb x 1) w) ∙ flag-place x
+
+shifter-sending : (t : Bool) (s : Transmission) → not (isResting (shifterOf t s)) ≡ t
+unfolding shifterOf
+shifter-sending true s = refl
+shifter-sending false s = refl
+
+sending-place : (x : ℕ) (s : Transmission) → eqb (bit (not (isResting (shifterOf (eqb x 1) s)))) x ≡ isFlag x
+sending-place x s = ap (λ (t : Bool). eqb (bit t) x) (shifter-sending (eqb x 1) s) ∙ flag-place x
+
+-- a comparison of lists, place by place: what is tested so far and the rest of it
+
+pub record Shows (a : Bool) (xs ys : List ℕ) (r : Bool) : Type 0 where
+  pub holds : a && eqList xs ys ≡ r
+
+and-and : (a b c : Bool) → a && (b && c) ≡ a && b && c
+and-and true b c = refl
+and-and false b c = refl
+
+or-false : (a : Bool) → a || false ≡ a
+or-false true = refl
+or-false false = refl
+
+rest : {a : Bool} {xs ys : List ℕ} → Shows a xs ys (a && eqList xs ys)
+rest = record { holds = refl }
+
+-- bytes that are the same exactly when a test holds
+infixr 20 _▹_
+_▹_ : {a t r : Bool} {x y : ℕ} {xs ys : List ℕ} → eqb x y ≡ t → Shows (a && t) xs ys r → Shows a (x ∷ xs) (y ∷ ys) r
+unfolding eqList
+_▹_ {a} {t} {r} {x} {y} {xs} {ys} e h = record { holds = rw e (and-and a t (eqList xs ys) ∙ h .holds) }
+
+-- bytes that are the same whatever they are
+infixr 20 _▸_
+_▸_ : {a r : Bool} {x y : ℕ} {xs ys : List ℕ} → eqb x y ≡ true → Shows a xs ys r → Shows a (x ∷ xs) (y ∷ ys) r
+unfolding eqList
+_▸_ {a} {r} {x} {y} {xs} {ys} e h = record { holds = rw e (h .holds) }
+
+-- several bytes together, the lists after them being us and vs
+pub record Part (g : Bool) (xs ys us vs : List ℕ) : Type 0 where
+  pub same : eqList xs ys ≡ g && eqList us vs
+
+part : {g : Bool} {xs ys us vs : List ℕ} → Shows true xs ys (g && eqList us vs) → Part g xs ys us vs
+part h = record { same = h .holds }
+
+infixr 20 _⟫_
+_⟫_ : {a g r : Bool} {xs ys us vs : List ℕ} → Part g xs ys us vs → Shows (a && g) us vs r → Shows a xs ys r
+_⟫_ {a} {g} {r} {xs} {ys} {us} {vs} p h = record { holds = ap (λ (t : Bool). a && t) (p .same) ∙ and-and a g (eqList us vs) ∙ h .holds }
+
+-- the parts that have cases
+
+abbrev word : ℕ → ℕ → ℕ
+word x y = x % 256 + 256 * (y % 256)
+
+buffer-bytes : (t : Bool) (x y : ℕ) → x < 256 → y < 256 → (xs ys : List ℕ) →
+    Part (t || isZero x && isZero y) (low (dataIn (bufferOf t (word x y))) ∷ high (dataIn (bufferOf t (word x y))) ∷ xs) (x ∷ y ∷ ys) xs ys
+unfolding bufferOf
+buffer-bytes true x y h k xs ys = part (low-place x y h ▸ high-place x y k ▸ rest)
+buffer-bytes false x y h k xs ys = part (zero-place x ▹ zero-place y ▹ rest)
+
+abbrev sent : ℕ → ℕ → ℕ → ℕ → Transmission
+sent x y m n = record { word = word x y; bit = m; sample = record { 0 = n } }
+
+shifter-bytes : (t : Bool) (x y m n : ℕ) → x < 256 → y < 256 → (xs ys : List ℕ) →
+    let s = transmissionIn (shifterOf t (sent x y m n)) in
+    Part (t || isZero x && isZero y && isZero m && isZero n) (low (s .word) ∷ high (s .word) ∷ s .bit ∷ s .sample .0 ∷ xs) (x ∷ y ∷ m ∷ n ∷ ys) xs ys
+unfolding shifterOf
+shifter-bytes true x y m n h k xs ys = part (low-place x y h ▸ high-place x y k ▸ same-place m ▸ same-place n ▸ rest)
+shifter-bytes false x y m n h k xs ys = part (zero-place x ▹ zero-place y ▹ zero-place m ▹ zero-place n ▹ rest)
+
+abbrev received : ℕ → ℕ → ℕ → ℕ → ℕ → ℕ → Reception
+received m n p q x y = record { bit = m; sample = record { 0 = n }; first = eqb p 1; second = eqb q 1; word = word x y }
+
+sampler-bytes : (t : Bool) (k l m n p q x y : ℕ) → eqb k 1 ≡ t → x < 256 → y < 256 → (xs ys : List ℕ) →
+    let s = samplerOf t (eqb l 1) (received m n p q x y) in
+    let r = receptionIn s in
+    Part
+    (t && isZero l && isFlag p && isFlag q
+    || isZero k && isFlag l && isZero m && isZero n && isZero p && isZero q && isZero x && isZero y)
+    (bit (isReceiving s) ∷ bit (rememberedIn s) ∷ r .bit ∷ r .sample .0 ∷ bit (r .first) ∷ bit (r .second) ∷ low (r .word) ∷ high (r .word) ∷ xs)
+    (k ∷ l ∷ m ∷ n ∷ p ∷ q ∷ x ∷ y ∷ ys) xs ys
+unfolding samplerOf
+sampler-bytes true k l m n p q x y e h h' xs ys =
+    let one : k ≡ 1 = eqb-true k 1 e in
+    let z : isZero k ≡ false = ne-eqb k 0 (omega arith) in
+    rw (z, or-false)
+    (part
+    (eq-eqb 1 k (sym one) ▸ zero-place l ▹ same-place m ▸ same-place n ▸ flag-place p ▹ flag-place q ▹ low-place x y h ▸ high-place x y h' ▸ rest))
+sampler-bytes false k l m n p q x y e h h' xs ys =
+    part
+    (zero-place k ▹ flag-place l ▹ zero-place m ▹ zero-place n ▹ zero-place p ▹ zero-place q ▹ zero-place x ▹ zero-place y ▹ rest)
+
+abbrev frame : ℕ → ℕ → ℕ → ℕ → ℕ → Frame
+frame x y p q r = record { «data» = word x y; fe = eqb p 1; upe = eqb q 1; dor = eqb r 1 }
+
+frame-bytes : (u v : Bool) (f : Frame) (x y p q r : ℕ) → v ≡ not u → f ≡ pick u (frame x y p q r) noFrame → x < 256 → y < 256 → (xs ys : List ℕ) →
+    Part (u && isFlag p && isFlag q && isFlag r || v && isZero x && isZero y && isZero p && isZero q && isZero r)
+    (low (f .«data») ∷ high (f .«data») ∷ bit (f .fe) ∷ bit (f .upe) ∷ bit (f .dor) ∷ xs) (x ∷ y ∷ p ∷ q ∷ r ∷ ys) xs ys
+frame-bytes true v f x y p q r d e h k xs ys =
+    rw (d, e, or-false) (part (low-place x y h ▸ high-place x y k ▸ flag-place p ▹ flag-place q ▹ flag-place r ▹ rest))
+frame-bytes false v f x y p q r d e h k xs ys =
+    rw (d, e) (part (zero-place x ▹ zero-place y ▹ zero-place p ▹ zero-place q ▹ zero-place r ▹ rest))
+
+at-most : (n k : ℕ) → ltb n (k + 1) ≡ not (ltb k n)
+at-most n k =
+    split (ltb k n) (λ e. let l = ltb-true k n e in rw e (le-ltb n (k + 1) (omega arith)))
+    (λ e. let l = ltb-false k n e in rw e (lt-ltb n (k + 1) (omega arith)))
+
+oldest-held : (n : ℕ) (a b : Frame) → oldestOf (placesOf n a b) ≡ pick (ltb 0 n) a noFrame
+unfolding placesOf
+oldest-held n a b =
+    let P : ℕ → Type 0 = λ k. oldestOf (placesOf k a b) ≡ pick (ltb 0 k) a noFrame in
+    split (eqb n 0) (at P n 0 refl) (λ c. split (eqb n 1) (at P n 1 refl)
+    (λ d. let c' = eqb-false n 0 c in rw (c, d, lt-ltb 0 n (omega arith))))
+
+second-held : (n : ℕ) (a b : Frame) → secondIn (placesOf n a b) ≡ pick (ltb 1 n) b noFrame
+unfolding placesOf
+second-held n a b =
+    let P : ℕ → Type 0 = λ k. secondIn (placesOf k a b) ≡ pick (ltb 1 k) b noFrame in
+    split (eqb n 0) (at P n 0 refl) (λ c. split (eqb n 1) (at P n 1 refl)
+    (λ d. let c' = eqb-false n 0 c in let d' = eqb-false n 1 d in rw (c, d, lt-ltb 1 n (omega arith))))
