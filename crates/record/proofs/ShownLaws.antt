@@ -5,7 +5,7 @@ use mathlib.Core.List.{List, [], _∷_}
 use mathlib.Core.Path.{_≡_, refl, sym, ap, ap₂, subst, _∙_}
 use native.Mathlib.Omega.{arith}
 use lib.Dec.{eqb, ltb}
-use lib.ListN.{length, getD}
+use lib.ListN.{length, getD, drop}
 use borrow.Author.Tests.{eqb-true, eqb-false, ltb-true, ltb-false, eq-eqb, ne-eqb, lt-ltb, le-ltb}
 use Rattle.choice.specs.Pick.{pick}
 use Rattle.choice.proofs.Picks.{split}
@@ -19,8 +19,8 @@ use Rattle.usart.specs.declared.queue.Frame.{Frame}
 use Rattle.record.specs.Codes.{knownSize, flagCode, flagOf}
 use Rattle.record.specs.Parts.{dataIn, bufferOf, transmissionIn, shifterOf, rememberedIn, receptionIn, samplerOf, heldCount, secondIn, placesOf}
 use Rattle.record.specs.Layout.{low, high, bit, imageOf}
-use Rattle.record.specs.Lift.{deviceAt}
-use Rattle.record.specs.Shown.{isFlag, isZero, isSizeCode, isUpm, isFlagCode, isShown}
+use Rattle.record.specs.Lift.{byteAt, wordAt, setAt, transmissionAt, oldestAt, secondAt, placesAt, deviceAt}
+use Rattle.record.specs.Shown.{isFlag, isZero, isSizeCode, isUpm, isFlagCode, settingsShown, senderShown, samplerShown, queueShown, usartShown, spiShown, isShown}
 use Rattle.record.specs.Codec.{eqList}
 
 -- one place of the record: whether the byte of the image is the record's
@@ -228,3 +228,90 @@ second-held n a b =
     let P : ℕ → Type 0 = λ k. secondIn (placesOf k a b) ≡ pick (ltb 1 k) b noFrame in
     split (eqb n 0) (at P n 0 refl) (λ c. split (eqb n 1) (at P n 1 refl)
     (λ d. let c' = eqb-false n 0 c in let d' = eqb-false n 1 d in rw (c, d, lt-ltb 1 n (omega arith))))
+
+-- the whole record
+
+abbrev listed : (ℕ → ℕ) → ℕ → List ℕ
+listed f zero = []
+listed f (suc n) = f 0 ∷ listed (λ i. f (suc i)) n
+
+listed-again : (b : List ℕ) → listed (λ i. getD b i 0) (length b) ≡ b
+listed-again [] = refl
+listed-again (x ∷ xs) = ap (λ (l : List ℕ). x ∷ l) (listed-again xs)
+
+and-true : (a : Bool) → a && true ≡ a
+and-true true = refl
+and-true false = refl
+
+done : {a : Bool} → Shows a [] [] a
+unfolding eqList
+done {a} = record { holds = and-true a }
+
+module _ (b : List ℕ) (fits : (i : ℕ) → getD b i 0 < 256) where
+  abbrev images : List ℕ
+  images = imageOf (deviceAt b)
+
+  abbrev bytes : List ℕ
+  bytes = listed (λ i. getD b i 0) 64
+
+  abbrev x : ℕ → ℕ
+  x i = byteAt b i
+
+  settings-part : Part (settingsShown b) images bytes (drop 15 images) (drop 15 bytes)
+  settings-part =
+      part
+      (low-place (x 0) (x 1) (fits 0) ▸ high-place (x 0) (x 1) (fits 1)
+      ▸ low-place (x 2) (x 3) (fits 2) ▸ high-place (x 2) (x 3) (fits 3)
+      ▸ size-place (x 4) ▹ upm-place (x 5) ▹ flag-place (x 6) ▹ flag-place (x 7)
+      ▹ flag-place (x 8) ▹ flag-place (x 9) ▹ flag-place (x 10) ▹ flag-place (x 11)
+      ▹ flag-place (x 12) ▹ flag-place (x 13) ▹ flag-place (x 14) ▹ rest)
+
+  sender-part : Part (senderShown b) (drop 15 images) (drop 15 bytes) (drop 23 images) (drop 23 bytes)
+  sender-part =
+      part
+      (full-place (x 15) (wordAt b 16) ▹ buffer-bytes (setAt b 15) (x 16) (x 17) (fits 16) (fits 17) _ _
+      ⟫ sending-place (x 18) (transmissionAt b)
+      ▹ shifter-bytes (setAt b 18) (x 19) (x 20) (x 21) (x 22) (fits 19) (fits 20) _ _
+      ⟫ rest)
+
+  sampler-part : Part (samplerShown b) (drop 23 images) (drop 23 bytes) (drop 31 images) (drop 31 bytes)
+  sampler-part =
+      sampler-bytes (setAt b 23) (x 23) (x 24) (x 25) (x 26) (x 27) (x 28) (x 29) (x 30)
+      refl (fits 29) (fits 30) _ _
+
+  queue-part : Part (queueShown b) (drop 31 images) (drop 31 bytes) (drop 43 images) (drop 43 bytes)
+  queue-part =
+      part
+      (held-place (x 31) (oldestAt b) (secondAt b) ▹ flag-place (x 32)
+      ▹ frame-bytes (ltb 0 (x 31)) (ltb (x 31) 1) (oldestOf (placesAt b))
+      (x 33) (x 34) (x 35) (x 36) (x 37)
+      (at-most (x 31) 0) (oldest-held (x 31) (oldestAt b) (secondAt b)) (fits 33) (fits 34) _ _
+      ⟫ frame-bytes (ltb 1 (x 31)) (ltb (x 31) 2) (secondIn (placesAt b))
+      (x 38) (x 39) (x 40) (x 41) (x 42)
+      (at-most (x 31) 1) (second-held (x 31) (oldestAt b) (secondAt b)) (fits 38) (fits 39) _ _
+      ⟫ rest)
+
+  usart-part : Part (usartShown b) images bytes (drop 48 images) (drop 48 bytes)
+  usart-part =
+      part
+      (settings-part ⟫ sender-part ⟫ sampler-part ⟫ queue-part
+      ⟫ zero-place (x 43) ▹ zero-place (x 44) ▹ zero-place (x 45) ▹ zero-place (x 46) ▹ zero-place (x 47)
+      ▹ rest)
+
+  spi-part : Part (spiShown b) (drop 48 images) (drop 48 bytes) [] []
+  spi-part =
+      part
+      (same-place (x 48) ▸ flag-place (x 49) ▹ same-place (x 50)
+      ▸ same-place (x 51) ▸ same-place (x 52) ▸ same-place (x 53) ▸ same-place (x 54)
+      ▸ flag-code-place (x 55) ▹ flag-code-place (x 56)
+      ▹ flag-place (x 57) ▹ flag-place (x 58) ▹ flag-place (x 59)
+      ▹ zero-place (x 60) ▹ zero-place (x 61) ▹ zero-place (x 62) ▹ zero-place (x 63) ▹ rest)
+
+  image-bytes : Shows true images bytes (isShown b)
+  unfolding isShown
+  image-bytes = usart-part ⟫ spi-part ⟫ done
+
+pub shown-image : (b : List ℕ) → length b ≡ 64 → ((i : ℕ) → getD b i 0 < 256) → isShown b ≡ eqList (imageOf (deviceAt b)) b
+shown-image b n fits =
+    sym (image-bytes b fits .holds)
+    ∙ ap (λ (l : List ℕ). eqList (imageOf (deviceAt b)) l) (sym (ap (listed (λ i. getD b i 0)) n) ∙ listed-again b)
