@@ -1,8 +1,9 @@
--- The tests of `isShown` come to the comparison of a record with the image of the device that it says. Assumes nothing.
-use Prim.Native.Nat.{ℕ, zero, suc, _+_, _*_, _%_, _<_, _≤_}
+-- The tests of `isShown` come to the comparison of a record with the image of the device that it says: `shown-image`. The image is compared
+-- byte by byte, in the record's order; each kind of byte has one law, and so has each part that has cases. Assumes nothing.
+use Prim.Native.Nat.{ℕ, zero, suc, _+_, _*_, _%_, _<_}
 use mathlib.Core.Bool.{Bool, true, false, not, _&&_, _||_}
 use mathlib.Core.List.{List, [], _∷_}
-use mathlib.Core.Path.{_≡_, refl, sym, ap, ap₂, subst, _∙_}
+use mathlib.Core.Path.{_≡_, refl, sym, ap, subst, _∙_}
 use native.Mathlib.Omega.{arith}
 use lib.Dec.{eqb, ltb}
 use lib.ListN.{length, getD, drop}
@@ -23,34 +24,36 @@ use Rattle.record.specs.Lift.{byteAt, wordAt, setAt, transmissionAt, old
 use Rattle.record.specs.Shown.{isFlag, isZero, isSizeCode, isUpm, isFlagCode, settingsShown, senderShown, samplerShown, queueShown, usartShown, spiShown, isShown}
 use Rattle.record.specs.Codec.{eqList}
 
--- one place of the record: whether the byte of the image is the record's
-
--- a number that is tested to be k, as k
+-- a property of a number that is tested to be k, from that of k
 at : (P : ℕ → Type 0) (x k : ℕ) → P k → eqb x k ≡ true → P x
 at P x k p e = subst P (sym (eqb-true x k e)) p
+
+-- the kinds of byte: when the byte of the image, made of what the record's byte x says, is x
 
 zero-place : (x : ℕ) → eqb 0 x ≡ isZero x
 zero-place x =
     split (eqb x 0) (at (λ (k : ℕ). eqb 0 k ≡ isZero k) x 0 refl)
     (λ e. let n = eqb-false x 0 e in ne-eqb 0 x (λ q. n (sym q)) ∙ sym e)
 
-low-place : (x y : ℕ) → x < 256 → eqb (low (x % 256 + 256 * (y % 256))) x ≡ true
-low-place x y h = eq-eqb (low (x % 256 + 256 * (y % 256))) x (omega arith)
+-- the word of two bytes, as it is lifted
+abbrev word : ℕ → ℕ → ℕ
+word x y = x % 256 + 256 * (y % 256)
 
-high-place : (x y : ℕ) → y < 256 → eqb (high (x % 256 + 256 * (y % 256))) y ≡ true
-high-place x y h = eq-eqb (high (x % 256 + 256 * (y % 256))) y (omega arith)
+low-place : (x y : ℕ) → x < 256 → eqb (low (word x y)) x ≡ true
+low-place x y h = eq-eqb (low (word x y)) x (omega arith)
+
+high-place : (x y : ℕ) → y < 256 → eqb (high (word x y)) y ≡ true
+high-place x y h = eq-eqb (high (word x y)) y (omega arith)
 
 same-place : (x : ℕ) → eqb x x ≡ true
 same-place x = eq-eqb x x refl
 
 flag-place : (x : ℕ) → eqb (bit (eqb x 1)) x ≡ isFlag x
 flag-place x =
-    split (eqb x 0) (at (λ (k : ℕ). eqb (bit (eqb k 1)) k ≡ isFlag k) x 0 refl)
-    (λ z. split (eqb x 1) (at (λ (k : ℕ). eqb (bit (eqb k 1)) k ≡ isFlag k) x 1 refl)
-    (λ e.
-    let n = eqb-false x 0 z in
-    let m = eqb-false x 1 e in
-    rw (e, le-ltb x 2 (omega arith), ne-eqb 0 x (omega arith))))
+    let P : ℕ → Type 0 = λ k. eqb (bit (eqb k 1)) k ≡ isFlag k in
+    split (eqb x 0) (at P x 0 refl)
+    (λ a. split (eqb x 1) (at P x 1 refl)
+    (λ b. let a' = eqb-false x 0 a in let b' = eqb-false x 1 b in rw (b, le-ltb x 2 (omega arith), ne-eqb 0 x (omega arith))))
 
 size-place : (x : ℕ) → eqb (codeOf (knownSize x)) x ≡ isSizeCode x
 unfolding sizeOf
@@ -117,10 +120,9 @@ shifter-sending false s = refl
 sending-place : (x : ℕ) (s : Transmission) → eqb (bit (not (isResting (shifterOf (eqb x 1) s)))) x ≡ isFlag x
 sending-place x s = ap (λ (t : Bool). eqb (bit t) x) (shifter-sending (eqb x 1) s) ∙ flag-place x
 
--- a comparison of lists, place by place: what is tested so far and the rest of it
-
-pub record Shows (a : Bool) (xs ys : List ℕ) (r : Bool) : Type 0 where
-  pub holds : a && eqList xs ys ≡ r
+-- a comparison of lists, byte by byte: with the tests a before it, it comes to r
+record Shows (a : Bool) (xs ys : List ℕ) (r : Bool) : Type 0 where
+  holds : a && eqList xs ys ≡ r
 
 and-and : (a b c : Bool) → a && (b && c) ≡ a && b && c
 and-and true b c = refl
@@ -133,21 +135,21 @@ or-false false = refl
 rest : {a : Bool} {xs ys : List ℕ} → Shows a xs ys (a && eqList xs ys)
 rest = record { holds = refl }
 
--- bytes that are the same exactly when a test holds
+-- a byte that is the same exactly when a test holds
 infixr 20 _▹_
 _▹_ : {a t r : Bool} {x y : ℕ} {xs ys : List ℕ} → eqb x y ≡ t → Shows (a && t) xs ys r → Shows a (x ∷ xs) (y ∷ ys) r
 unfolding eqList
 _▹_ {a} {t} {r} {x} {y} {xs} {ys} e h = record { holds = rw e (and-and a t (eqList xs ys) ∙ h .holds) }
 
--- bytes that are the same whatever they are
+-- a byte that is the same whatever it is
 infixr 20 _▸_
 _▸_ : {a r : Bool} {x y : ℕ} {xs ys : List ℕ} → eqb x y ≡ true → Shows a xs ys r → Shows a (x ∷ xs) (y ∷ ys) r
 unfolding eqList
 _▸_ {a} {r} {x} {y} {xs} {ys} e h = record { holds = rw e (h .holds) }
 
--- several bytes together, the lists after them being us and vs
-pub record Part (g : Bool) (xs ys us vs : List ℕ) : Type 0 where
-  pub same : eqList xs ys ≡ g && eqList us vs
+-- the first bytes of two lists are the same exactly when g holds; us and vs are the lists after them
+record Part (g : Bool) (xs ys us vs : List ℕ) : Type 0 where
+  same : eqList xs ys ≡ g && eqList us vs
 
 part : {g : Bool} {xs ys us vs : List ℕ} → Shows true xs ys (g && eqList us vs) → Part g xs ys us vs
 part h = record { same = h .holds }
@@ -156,10 +158,7 @@ infixr 20 _⟫_
 _⟫_ : {a g r : Bool} {xs ys us vs : List ℕ} → Part g xs ys us vs → Shows (a && g) us vs r → Shows a xs ys r
 _⟫_ {a} {g} {r} {xs} {ys} {us} {vs} p h = record { holds = ap (λ (t : Bool). a && t) (p .same) ∙ and-and a g (eqList us vs) ∙ h .holds }
 
--- the parts that have cases
-
-abbrev word : ℕ → ℕ → ℕ
-word x y = x % 256 + 256 * (y % 256)
+-- the parts that have cases, each by the test that decides which
 
 buffer-bytes : (t : Bool) (x y : ℕ) → x < 256 → y < 256 → (xs ys : List ℕ) →
     Part (t || isZero x && isZero y) (low (dataIn (bufferOf t (word x y))) ∷ high (dataIn (bufferOf t (word x y))) ∷ xs) (x ∷ y ∷ ys) xs ys
@@ -202,6 +201,7 @@ sampler-bytes false k l m n p q x y e h h' xs ys =
 abbrev frame : ℕ → ℕ → ℕ → ℕ → ℕ → Frame
 frame x y p q r = record { «data» = word x y; fe = eqb p 1; upe = eqb q 1; dor = eqb r 1 }
 
+-- of either place: u says that the frame f is held, and v that it is not
 frame-bytes : (u v : Bool) (f : Frame) (x y p q r : ℕ) → v ≡ not u → f ≡ pick u (frame x y p q r) noFrame → x < 256 → y < 256 → (xs ys : List ℕ) →
     Part (u && isFlag p && isFlag q && isFlag r || v && isZero x && isZero y && isZero p && isZero q && isZero r)
     (low (f .«data») ∷ high (f .«data») ∷ bit (f .fe) ∷ bit (f .upe) ∷ bit (f .dor) ∷ xs) (x ∷ y ∷ p ∷ q ∷ r ∷ ys) xs ys
@@ -231,6 +231,7 @@ second-held n a b =
 
 -- the whole record
 
+-- the first bytes of a record, written out
 abbrev listed : (ℕ → ℕ) → ℕ → List ℕ
 listed f zero = []
 listed f (suc n) = f 0 ∷ listed (λ i. f (suc i)) n
