@@ -3,7 +3,7 @@
 use Prim.Native.Nat.{ℕ}
 use mathlib.Core.Bool.{Bool, true, false, _&&_}
 use mathlib.Core.List.{List}
-use mathlib.Core.Path.{_≡_, refl, sym, ap, _∙_}
+use mathlib.Core.Path.{_≡_, refl, sym, ap, ap₂, _∙_}
 use native.Mathlib.Omega.{arith}
 use lib.Dec.{eqb}
 use lib.ListN.{length}
@@ -24,16 +24,17 @@ module _ (of : List ℕ → Device) (bytes : Device → List ℕ) (ok : Device �
   abbrev pub decoded : List ℕ → Decoded
   decoded s = pick (eqb (length s) 64) (pick (eqList (bytes (of s)) s && ok (of s)) (Accepted (of s)) Refused) Refused
 
-  -- the test of the code, from what its calls answer
-  pub tests : (s b e : List ℕ) (d : Device) (q v r : Bool) → b ≡ s → d ≡ of b → e ≡ bytes d → q ≡ eqList e b → v ≡ ok d → q && v ≡ r →
-      eqList (bytes (of s)) s && ok (of s) ≡ r
-  tests s b e d q v r hb hd he hq hv h = cc
+  pub accepted : (s : List ℕ) (d : Device) → length s ≡ 64 → d ≡ of s → eqList (bytes (of s)) s ≡ true → ok (of s) ≡ true → Accepted d ≡ decoded s
+  accepted s d n hd h k = pick-true _ _ _ _ (eq-eqb (length s) 64 n) (pick-true _ _ _ _ (and-pair _ _ h k) (ap Accepted hd))
 
-  pub accepted : (s : List ℕ) (d : Device) → length s ≡ 64 → d ≡ of s → eqList (bytes (of s)) s && ok (of s) ≡ true → Accepted d ≡ decoded s
-  accepted s d n hd h = pick-true _ _ _ _ (eq-eqb (length s) 64 n) (pick-true _ _ _ _ h (ap Accepted hd))
-
-  pub refused : (s : List ℕ) → length s ≡ 64 → eqList (bytes (of s)) s && ok (of s) ≡ false → Refused ≡ decoded s
+  refused : (s : List ℕ) → length s ≡ 64 → eqList (bytes (of s)) s && ok (of s) ≡ false → Refused ≡ decoded s
   refused s n h = pick-true _ _ _ _ (eq-eqb (length s) 64 n) (pick-false _ _ _ _ h refl)
+
+  pub other-image : (s : List ℕ) → length s ≡ 64 → eqList (bytes (of s)) s ≡ false → Refused ≡ decoded s
+  other-image s n h = refused s n (ap (λ (t : Bool). t && ok (of s)) h)
+
+  pub out-of-range : (s : List ℕ) → length s ≡ 64 → eqList (bytes (of s)) s ≡ true → ok (of s) ≡ false → Refused ≡ decoded s
+  out-of-range s n h k = refused s n (ap₂ (_&&_) h k)
 
   pub wrong-length : (s : List ℕ) → (length s ≡ 64 → ⊥) → Refused ≡ decoded s
   wrong-length s n = pick-false _ _ _ _ (ne-eqb (length s) 64 n) refl
@@ -42,8 +43,7 @@ module _ (of : List ℕ → Device) (bytes : Device → List ℕ) (ok : Device �
   pub image : (d : Device) → length (bytes d) ≡ 64 → of (bytes d) ≡ d → ok d ≡ true → decoded (bytes d) ≡ Accepted d
   image d n r h =
       sym
-      (accepted (bytes d) d n (sym r)
-      (and-pair _ _ (ap (λ (x : Device). eqList (bytes x) (bytes d)) r ∙ eqList-refl (bytes d)) (ap ok r ∙ h)))
+      (accepted (bytes d) d n (sym r) (ap (λ (x : Device). eqList (bytes x) (bytes d)) r ∙ eqList-refl (bytes d)) (ap ok r ∙ h))
 
   -- what is accepted is the image of its device, which is in its ranges
   pub source : (s : List ℕ) (d : Device) → decoded s ≡ Accepted d → (bytes d ≡ s) × (ok d ≡ true)

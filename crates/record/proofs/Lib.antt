@@ -4,4 +4,5 @@ pub mod Accepting
 pub mod RangeLaws
 pub mod LiftLaws
 pub mod ByteLaws
+pub mod ShownLaws
 pub mod Round

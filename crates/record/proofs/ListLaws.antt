@@ -18,10 +18,6 @@ and-both false b h = absurd (let z : _≡_ {A = ℕ} 0 1 = cc in omega arith)
 pub and-pair : (a b : Bool) → a ≡ true → b ≡ true → a && b ≡ true
 and-pair a b h k = ap₂ (_&&_) h k
 
-pub not-true-false : (t : Bool) → (t ≡ true → ⊥) → t ≡ false
-not-true-false true h = absurd (h refl)
-not-true-false false h = refl
-
 pub eqList-refl : (a : List ℕ) → eqList a a ≡ true
 unfolding eqList
 eqList-refl [] = refl
@@ -34,14 +30,6 @@ eqList-true [] (y ∷ ys) h = absurd (let z : _≡_ {A = ℕ} 0 1 = cc in omega 
 eqList-true (x ∷ xs) [] h = absurd (let z : _≡_ {A = ℕ} 0 1 = cc in omega arith)
 eqList-true (x ∷ xs) (y ∷ ys) h =
     let e = and-both (eqb x y) (eqList xs ys) h in ap₂ (_∷_) (eqb-true x y (e .0)) (eqList-true xs ys (e .1))
-
--- what a comparison says, as an equation
-pub same-is : (r : Bool) (a b : List ℕ) → (r ≡ true → a ≡ b) → (a ≡ b → r ≡ true) → r ≡ eqList a b
-same-is true a b p q = let e : a ≡ b = p refl in rw e (sym (eqList-refl b))
-same-is false a b p q =
-    sym
-    (not-true-false (eqList a b)
-    (λ h. let e : false ≡ true = q (eqList-true a b h) in let z : _≡_ {A = ℕ} 0 1 = cc in omega arith))
 
 pub copied : (s d : List ℕ) → length s ≡ length d → take (length s) s ++ drop (length s) d ≡ s
 copied s d h = rw (take-length, h, drop-length, append-nil)

@@ -1,4 +1,5 @@
 use crate::encode::image;
+use crate::shown::shown;
 use crate::spi_lift::spi_at;
 use crate::spi_ranges::spi_fits;
 use crate::usart_lift::usart_at;
@@ -8,7 +9,7 @@ ghost use mathlib.Core.Path.{_≡_};
 ghost use lib.ListN.{length};
 ghost use Rattle.record.specs.Lift.{deviceAt};
 ghost use Rattle.record.specs.Ranges.{inRange};
-ghost use Rattle.record.specs.Codec.{eqList, decodeOf, storedOf};
+ghost use Rattle.record.specs.Codec.{decodeOf, storedOf};
 
 pub enum Decoded {
     Accepted(Device),
@@ -34,12 +35,6 @@ fn put(b: [u8; 64], s: &mut [u8])
     bytes::copy(&b, s);
 }
 
-fn equal(a: [u8; 64], b: [u8; 64]) -> bool
-    ensures { λ r. ⌜ r ≡ eqList a b ⌝ }
-{
-    check::same(&a, &b)
-}
-
 fn device_at(b: [u8; 64]) -> Device
     ensures { λ r. ⌜ r ≡ deviceAt b ⌝ }
 {
@@ -57,8 +52,8 @@ fn in_range(d: Device) -> bool
     usart_fits(u) & spi_fits(s)
 }
 
-// The device of a record. The comparison with its image refuses what no device would show: a flag of 2, an unknown code, a byte
-// that is not in use and not 0.
+// The device of a record. What no device would show is refused first: a flag of 2, an unknown code, a byte that is not in use and
+// not 0.
 pub fn decode(s: &[u8]) -> Decoded
     ensures { λ r. ⌜ r ≡ decodeOf (now (s .entry)) ⌝ }
 {
@@ -66,9 +61,11 @@ pub fn decode(s: &[u8]) -> Decoded
         return Decoded::Refused;
     }
     let b = taken(s);
+    if !shown(b) {
+        return Decoded::Refused;
+    }
     let d = device_at(b);
-    let e = image(d);
-    if equal(e, b) & in_range(d) {
+    if in_range(d) {
         Decoded::Accepted(d)
     } else {
         Decoded::Refused

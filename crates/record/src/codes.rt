@@ -4,7 +4,7 @@ use usart::Coded;
 ghost use mathlib.Core.Path.{_≡_};
 ghost use Rattle.record.specs.Codes.{knownSize, flagCode, flagOf};
 
-// The size of a code; a reserved one gives any, which the comparison with the record's bytes refuses.
+// The size of a code. A reserved one gives any: a record that has one is refused before it is lifted.
 pub fn known_size(code: u8) -> Size
     ensures { λ r. ⌜ r ≡ knownSize code ⌝ }
 {
@@ -25,7 +25,7 @@ pub fn flag_code(f: Flag) -> u8
     }
 }
 
-// Any other code gives a clear flag, which the comparison refuses.
+// Any other code gives a clear flag: a record that has one is refused before it is lifted.
 pub fn flag_of(code: u8) -> Flag
     ensures { λ r. ⌜ r ≡ flagOf code ⌝ }
 {

@@ -3,6 +3,7 @@ mod codec;
 mod codes;
 mod encode;
 mod parts;
+mod shown;
 mod spi_lift;
 mod spi_ranges;
 mod usart_lift;

@@ -146,7 +146,7 @@ fn second(p: Places) -> Frame
     }
 }
 
-// A count above 2 gives any places, which the comparison with the record's bytes refuses.
+// A count above 2 gives any places: a record that has one is refused before it is lifted.
 pub fn places_of(held: u8, a: Frame, b: Frame) -> Places
     ensures { λ r. ⌜ r ≡ placesOf held a b ⌝ }
 {

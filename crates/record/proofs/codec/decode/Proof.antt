@@ -1,10 +1,15 @@
-use mathlib.Core.Path.{_≡_, ap, _∙_}
-use mathlib.Core.Bool.{Bool, true, false, _&&_}
+use Prim.Native.Nat.{ℕ, _<_}
+use mathlib.Core.Path.{_≡_, sym, ap, _∙_}
+use native.Mathlib.Omega.{arith}
+use lib.ListN.{getD}
 use denote.Ref.{now}
+use borrow.Author.Tests.{not-true, not-false}
 use Rattle.record.specs.Lift.{deviceAt}
+use Rattle.record.specs.Shown.{isShown}
 use Rattle.record.specs.Ranges.{inRange}
 use Rattle.record.specs.Codec.{eqList, recordOf, decodeOf}
-use Rattle.record.proofs.Accepting.{tests, accepted, refused, wrong-length}
+use Rattle.record.proofs.Accepting.{accepted, other-image, out-of-range, wrong-length}
+use Rattle.record.proofs.ShownLaws.{shown-image}
 use borrow.Author.Needs.{needs}
 use Rattle.record.proofs.codec.decode.Statement.{statement}
 use Rattle.record.proofs.codec.decode.Tie as tie
@@ -16,38 +21,50 @@ returns c = wrong-length deviceAt recordOf inRange (now (c .before .before .args
 taken-requires : tie.Need-taken-requires
 taken-requires c κs = search needs
 
-device-at-requires : tie.Need-device-at-requires
-device-at-requires c κs = search needs
+shown-requires : tie.Need-shown-requires
+shown-requires c κs = search needs
 
-image-requires : tie.Need-image-requires
-image-requires c κs = search needs
-
-equal-requires : tie.Need-equal-requires
-equal-requires c κs = search needs
-
-in-range-requires : tie.Need-in-range-requires
-in-range-requires c κs = search needs
-
--- what the record's test comes to, from what the calls answer
-checked : (c : tie.After-in-range) (r : Bool) → (c .before .equal .result && c .in-range .result) ≡ r → eqList (recordOf (deviceAt (now (c .before .before .before .before .before .before .before .args .s)))) (now (c .before .before .before .before .before .before .before .args .s)) && inRange (deviceAt (now (c .before .before .before .before .before .before .before .args .s))) ≡ r
+-- the test of the bytes is the comparison
+compared : (c : tie.After-shown) → let s = now (c .before .before .before .before .args .s) in eqList (recordOf (deviceAt s)) s ≡ c .shown .result
 unfolding recordOf
-checked c r h =
-    tests deviceAt recordOf inRange _ _ _ _ _ _ r (c .before .before .before .before .taken .ensures) (c .before .before .before .device-at .ensures)
-    (c .before .before .image .ensures) (c .before .equal .ensures) (c .in-range .ensures) h
+compared c =
+    let s = now (c .before .before .before .before .args .s) in
+    let fits : (i : ℕ) → getD s i 0 < 256 = λ i. omega (arith, c .before .before .before .shared-slice-known .given i) in
+    sym (c .shown .ensures ∙ ap isShown (c .before .taken .ensures) ∙ shown-image s (c .before .before .if1 .left) fits)
 
 returns-2 : tie.Need-returns-2
 unfolding decodeOf
 returns-2 c =
-    accepted deviceAt recordOf inRange (now (c .before .before .before .before .before .before .before .before .args .s)) _
-    (c .before .before .before .before .before .before .if1 .left)
-    (c .before .before .before .before .device-at .ensures ∙ ap deviceAt (c .before .before .before .before .before .taken .ensures))
-    (checked (c .before) true (c .if2 .taken))
+    other-image deviceAt recordOf inRange (now (c .before .before .before .before .before .args .s)) (c .before .before .before .if1 .left)
+    (compared (c .before) ∙ not-true _ (c .if2 .taken))
+
+device-at-requires : tie.Need-device-at-requires
+device-at-requires c κs = search needs
+
+in-range-requires : tie.Need-in-range-requires
+in-range-requires c κs = search needs
+
+lifted : (c : tie.After-device-at) → c .device-at .result ≡ deviceAt (now (c .before .before .before .before .before .before .args .s))
+lifted c = c .device-at .ensures ∙ ap deviceAt (c .before .before .before .taken .ensures)
+
+ranged : (c : tie.After-in-range) → inRange (deviceAt (now (c .before .before .before .before .before .before .before .args .s))) ≡ c .in-range .result
+ranged c = sym (c .in-range .ensures ∙ ap inRange (lifted (c .before)))
 
 returns-3 : tie.Need-returns-3
 unfolding decodeOf
 returns-3 c =
-    refused deviceAt recordOf inRange (now (c .before .before .before .before .before .before .before .before .args .s))
-    (c .before .before .before .before .before .before .if1 .left) (checked (c .before) false (c .if2 .left))
+    accepted deviceAt recordOf inRange (now (c .before .before .before .before .before .before .before .before .args .s)) _
+    (c .before .before .before .before .before .before .if1 .left) (lifted (c .before .before))
+    (compared (c .before .before .before .before) ∙ not-false _ (c .before .before .before .if2 .left))
+    (ranged (c .before) ∙ c .if3 .taken)
+
+returns-4 : tie.Need-returns-4
+unfolding decodeOf
+returns-4 c =
+    out-of-range deviceAt recordOf inRange (now (c .before .before .before .before .before .before .before .before .args .s))
+    (c .before .before .before .before .before .before .if1 .left)
+    (compared (c .before .before .before .before) ∙ not-false _ (c .before .before .before .if2 .left))
+    (ranged (c .before) ∙ c .if3 .left)
 
 pub decode-spec : {M : Type 1} → statement M
 decode-spec =
@@ -55,9 +72,9 @@ decode-spec =
     (tie.spec
     returns
     taken-requires
-    device-at-requires
-    image-requires
-    equal-requires
-    in-range-requires
+    shown-requires
     returns-2
-    returns-3)
+    device-at-requires
+    in-range-requires
+    returns-3
+    returns-4)
