@@ -213,6 +213,12 @@ impl Usart {
         ensures { λ r. ⌜ r ≡ skippedOf self n ⌝ }
     {
         let k = least(self.quiet(), n);
+        if k == 0 {
+            return Skipped {
+                usart: self,
+                clocks: 0,
+            };
+        }
         let u = self.counted(k);
         Skipped {
             usart: u,

@@ -1,9 +1,8 @@
-use device::Device;
+use crate::clocks::clocks;
 use device::Refusal;
 use record::Decoded;
 ghost use mathlib.Core.Path.{_≡_};
-ghost use lib.ListN.{length};
-ghost use Rattle.device.specs.Run.{ranOf, outputsOf, areLevels};
+ghost use Rattle.device.specs.Run.{areLevels};
 ghost use Rattle.warpmagpie.specs.Calls.{runAnswer, recordAfterRun, outputsAfterRun};
 
 // Whether no level byte has bit 5, 6 or 7 set.
@@ -18,23 +17,6 @@ fn are_levels(levels: &[u8]) -> bool
         i += 1;
     }
     true
-}
-
-// One clock for each level byte, with an output byte for each.
-fn clocks(d: Device, levels: &[u8], outputs: &mut [u8]) -> Device
-    requires { ⌜ length (now outputs) ≡ length (now levels) ⌝ }
-    ensures { λ r. ⌜ r ≡ ranOf d (now (levels .entry)) ⌝ }
-    ensures { λ _. ⌜ now (outputs .exit) ≡ outputsOf d (now (levels .entry)) ⌝ }
-{
-    let mut state = d;
-    let mut i = 0;
-    while i < levels.len() {
-        let c = state.clock(levels[i]);
-        outputs[i] = c.output;
-        state = c.device;
-        i += 1;
-    }
-    state
 }
 
 // The level bytes are all checked before any clock passes.

@@ -1,4 +1,7 @@
-use Rattle.usart.proofs.CountingLaws.{least-low}
+use mathlib.Core.Path.{_≡_, sym, _∙_}
+use Prim.Native.Nat.{ℕ}
+use Rattle.usart.specs.Counting.{quietOf, least}
+use Rattle.usart.proofs.CountingLaws.{least-low, counted-none}
 use borrow.Author.Needs.{needs}
 use Rattle.usart.proofs.unit.Usart.skip.Statement.{statement}
 use Rattle.usart.proofs.unit.Usart.skip.Tie as tie
@@ -9,11 +12,17 @@ quiet-requires c κs = search needs
 least-requires : tie.Need-least-requires
 least-requires c κs = search needs
 
-counted-requires : tie.Need-counted-requires
-counted-requires c κs = rw (c .least .ensures, c .before .quiet .ensures) (least-low _ _)
-
 returns : tie.Need-returns
-returns c = rw (c .counted .ensures, c .before .least .ensures, c .before .before .quiet .ensures)
+returns c =
+    let u = c .before .before .before .args .self in
+    let e : least (quietOf u) (c .before .before .before .args .n) ≡ 0 = sym (rw (c .before .least .ensures, c .before .before .quiet .ensures)) ∙ c .if1 .taken in
+    rw (e, counted-none u)
+
+counted-requires : tie.Need-counted-requires
+counted-requires c κs = rw (c .before .least .ensures, c .before .before .quiet .ensures) (least-low _ _)
+
+returns-2 : tie.Need-returns-2
+returns-2 c = rw (c .counted .ensures, c .before .before .least .ensures, c .before .before .before .quiet .ensures)
 
 pub skip-spec : {M : Type 1} → statement M
-skip-spec = tie.close (tie.spec quiet-requires least-requires counted-requires returns)
+skip-spec = tie.close (tie.spec quiet-requires least-requires returns counted-requires returns-2)
