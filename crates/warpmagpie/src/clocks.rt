@@ -47,7 +47,7 @@ fn fill(outputs: &mut [u8], from: usize, to: usize, output: u8)
 }
 
 // The serial unit after some clocks, and the place of the level byte that comes next.
-pub struct Passed {
+struct Passed {
     pub usart: Usart,
     pub place: usize,
 }
@@ -143,7 +143,7 @@ fn off_clocks(mut s: Spi, levels: &[u8]) -> Spi
 }
 
 // One clock for each level byte, with an output byte for each.
-pub fn clocks(d: Device, levels: &[u8], outputs: &mut [u8]) -> Device
+pub(crate) fn clocks(d: Device, levels: &[u8], outputs: &mut [u8]) -> Device
     requires { ⌜ length (now outputs) ≡ length (now levels) ⌝ }
     ensures { λ r. ⌜ r ≡ ranOf d (now (levels .entry)) ⌝ }
     ensures { λ _. ⌜ now (outputs .exit) ≡ outputsOf d (now (levels .entry)) ⌝ }

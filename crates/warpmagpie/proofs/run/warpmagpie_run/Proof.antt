@@ -9,7 +9,7 @@ use Rattle.device.proofs.answer.Refusal.number.Reads as number-reads
 use Rattle.record.proofs.decode.Reads as decode-reads
 use Rattle.record.proofs.store.Reads as store-reads
 use Rattle.warpmagpie.proofs.run.are_levels.Reads as are-levels-reads
-use Rattle.warpmagpie.proofs.run.clocks.Reads as clocks-reads
+use Rattle.warpmagpie.proofs.clocks.clocks.Reads as clocks-reads
 
 decode-requires : tie.Need-decode-requires
 decode-requires c κs = search needs

@@ -1,5 +1,4 @@
 use mathlib.Core.Path.{_≡_, sym, _∙_}
-use Prim.Native.Nat.{ℕ}
 use Rattle.usart.specs.Counting.{quietOf, least}
 use Rattle.usart.proofs.CountingLaws.{least-low, counted-none}
 use borrow.Author.Needs.{needs}
