@@ -1,4 +1,19 @@
-# make test: prove every crate from nothing, try the must-fail edits, run the programs, then the host tests.
-.PHONY: test
+.PHONY: demo test compare bench
+
+# Builds the archive and the rig in examples/, plays both transfers and writes the waveform.
+demo:
+	@bash examples/build.sh
+	@target/rig target/demo.vcd
+	@echo "waveform: target/demo.vcd"
+
+# Proves every crate from nothing, tries the must-fail edits, runs the programs, then the host tests.
 test:
 	@bash tests/run
+
+# The archive against the independent model: make compare SEED=7 SCALE=5 does five times what the test does, with another seed.
+compare:
+	@bash tests/host/compare.sh $(if $(SEED),--seed $(SEED)) $(if $(SCALE),--scale $(SCALE))
+
+# Time of a clock against the independent model's.
+bench:
+	@bash bench/run.sh

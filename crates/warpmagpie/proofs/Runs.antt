@@ -1,13 +1,13 @@
 -- A run, clock by clock: what is left of it after i level bytes.
 use Prim.Native.Nat.{ℕ, suc, _+_, _-_, _%_, _<_, _≤_}
-use mathlib.Core.Bool.{Bool, false}
+use mathlib.Core.Bool.{Bool, true, false, _&&_}
 use mathlib.Core.List.{List, [], _∷_, _++_, append-assoc, append-nil}
 use mathlib.Core.Path.{_≡_, refl, sym, ap, ap₂, _∙_}
 use native.Mathlib.Numerals.{add-one}
 use native.Mathlib.Omega.{arith}
+use lib.Dec.{ltb}
 use lib.ListN.{length, take, drop, getD, set, replicate, take-append-drop, length-drop, replicate-append-replicate}
 use lib.Seq.{drop-cons, drop-drop, drop-length, drop-set-lt, length-take-le, take-length, take-suc-set}
-use borrow.Author.Tests.{lt-ltb, le-ltb}
 use Rattle.choice.specs.Pick.{pick}
 use Rattle.usart.specs.Unit.{clockOf as serialClock, outputOf as serialOutput}
 use Rattle.usart.specs.Counting.{least, quietOf, countedOf, skippedOf}
@@ -23,16 +23,10 @@ use Rattle.device.specs.declared.unit.Device.{Device}
 use Rattle.device.proofs.RunLaws.{ran-units, outputs-units, serial-append, serial-outputs-append, counted-ran, counted-outputs}
 
 module _ (ls : List ℕ) (i : ℕ) (h : i < length ls) where
-  pub level-low : getD ls i 0 ≤ 31 → areLevels (drop i ls) ≡ areLevels (drop (i + 1) ls)
+  pub level-on : (low : Bool) → pick (low && ltb (getD ls i 0) 32) (areLevels (drop (i + 1) ls)) false ≡ pick low (areLevels (drop i ls)) false
   unfolding areLevels
-  level-low k =
-      ap areLevels (drop-cons ls i 0 h)
-      ∙ ap₂ (λ (t : Bool) (x : List ℕ). pick t (areLevels x) false) (lt-ltb (getD ls i 0) 32 (omega arith)) (ap (λ (n : ℕ). drop n ls) (sym (add-one i)))
-
-  pub level-high : 31 < getD ls i 0 → areLevels (drop i ls) ≡ false
-  unfolding areLevels
-  level-high k =
-      ap areLevels (drop-cons ls i 0 h) ∙ ap (λ (t : Bool). pick t (areLevels (drop (suc i) ls)) false) (le-ltb (getD ls i 0) 32 (omega arith))
+  level-on true = rw (add-one i, drop-cons ls i 0 h)
+  level-on false = refl
 
   module _ (u : Usart) {v : Usart} (e : v ≡ serialClock u (rxdIn (getD ls i 0))) where
     pub serial-on : serialRan v (drop (i + 1) ls) ≡ serialRan u (drop i ls)
@@ -120,6 +114,10 @@ spi-end s ls os i e f =
     let none′ : drop i os ≡ [] = rw (f, drop-length) in
     let all : take i os ≡ os = rw (f, take-length) in
     (rw none refl, rw (none′, all, append-nil))
+
+pub pick-self : (b : Bool) → pick b true false ≡ b
+pick-self true = refl
+pick-self false = refl
 
 pub none-left : (ls : List ℕ) (i : ℕ) → i ≡ length ls → drop i ls ≡ []
 none-left ls i h = rw (h, drop-length)

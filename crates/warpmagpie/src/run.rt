@@ -5,18 +5,18 @@ ghost use mathlib.Core.Path.{_≡_};
 ghost use Rattle.device.specs.Run.{areLevels};
 ghost use Rattle.warpmagpie.specs.Calls.{runAnswer, recordAfterRun, outputsAfterRun};
 
-// Whether no level byte has bit 5, 6 or 7 set.
+// Whether no level byte has bit 5, 6 or 7 set. All are looked at, also after one that has: without a way out of the loop the compiler tests
+// many at a time.
 fn are_levels(levels: &[u8]) -> bool
     ensures { λ r. ⌜ r ≡ areLevels (now (levels .entry)) ⌝ }
 {
+    let mut low = true;
     let mut i = 0;
     while i < levels.len() {
-        if 31 < levels[i] {
-            return false;
-        }
+        low = low & (levels[i] < 32);
         i += 1;
     }
-    true
+    low
 }
 
 // The level bytes are all checked before any clock passes.

@@ -1,0 +1,104 @@
+#include "node.h"
+
+#include <inttypes.h>
+#include <stdio.h>
+#include <stdlib.h>
+
+static const uint64_t NANOSECONDS = 1000000000;
+
+static const char *answer_name(uint8_t answer)
+{
+    switch (answer) {
+    case WARPMAGPIE_DONE: return "done";
+    case WARPMAGPIE_UNKNOWN: return "no such register address or vector";
+    case WARPMAGPIE_RESERVED: return "reserved setting";
+    case WARPMAGPIE_UNMODELLED: return "mode not modelled";
+    case WARPMAGPIE_UNDER_WAY: return "setting changed while a frame or transfer is under way";
+    case WARPMAGPIE_RECORD: return "not a record";
+    case WARPMAGPIE_LENGTH: return "outputs not as long as levels";
+    case WARPMAGPIE_LEVEL: return "level byte with bit 5, 6 or 7 set";
+    case WARPMAGPIE_UNREQUESTED: return "vector taken without its request";
+    default: return "unknown answer";
+    }
+}
+
+const char *node_register_name(uint16_t address)
+{
+    switch (address) {
+    case WARPMAGPIE_UCSR0A: return "UCSR0A";
+    case WARPMAGPIE_UCSR0B: return "UCSR0B";
+    case WARPMAGPIE_UCSR0C: return "UCSR0C";
+    case WARPMAGPIE_UBRR0L: return "UBRR0L";
+    case WARPMAGPIE_UBRR0H: return "UBRR0H";
+    case WARPMAGPIE_UDR0: return "UDR0";
+    case WARPMAGPIE_SPCR: return "SPCR";
+    case WARPMAGPIE_SPSR: return "SPSR";
+    case WARPMAGPIE_SPDR: return "SPDR";
+    case WARPMAGPIE_DDRB: return "DDRB";
+    default: return "?";
+    }
+}
+
+_Noreturn void node_stop(const struct node *node, const char *message)
+{
+    fflush(stdout);
+    fprintf(stderr, "rig: %s, clock %" PRIu64 ": %s\n", node->name, node->clocks, message);
+    exit(EXIT_FAILURE);
+}
+
+static void check(struct node *node, const char *call, const char *place, uint8_t answer)
+{
+    char message[128];
+    node->answer = answer;
+    if (answer == WARPMAGPIE_DONE)
+        return;
+    snprintf(message, sizeof message, "%s%s: answer %u (%s)", call, place, answer, answer_name(answer));
+    node_stop(node, message);
+}
+
+void node_start(struct node *node, const char *name, uint64_t hertz)
+{
+    *node = (struct node){.name = name, .hertz = hertz};
+    check(node, "reset", "", warpmagpie_reset(node->record, sizeof node->record));
+}
+
+void node_write(struct node *node, uint16_t address, uint8_t value)
+{
+    check(node, "write ", node_register_name(address), warpmagpie_write(node->record, sizeof node->record, address, value));
+}
+
+uint8_t node_read(struct node *node, uint16_t address)
+{
+    uint8_t value = 0;
+    check(node, "read ", node_register_name(address), warpmagpie_read(node->record, sizeof node->record, address, &value));
+    return value;
+}
+
+uint8_t node_requests(struct node *node)
+{
+    uint8_t requests = 0;
+    check(node, "requests", "", warpmagpie_requests(node->record, sizeof node->record, &requests));
+    return requests;
+}
+
+void node_take_vector(struct node *node, uint8_t vector)
+{
+    const char *name = vector == WARPMAGPIE_VECTOR_TXC ? "TXC" : vector == WARPMAGPIE_VECTOR_SPIF ? "SPIF" : "?";
+    check(node, "vector ", name, warpmagpie_take_vector(node->record, sizeof node->record, vector));
+}
+
+void node_clock(struct node *node, uint8_t levels)
+{
+    check(node, "run", "", warpmagpie_run(node->record, sizeof node->record, &levels, 1, &node->output, 1));
+    node->clocks++;
+}
+
+bool node_is_next(const struct node *node, const struct node *other)
+{
+    return (node->clocks + 1) * other->hertz <= (other->clocks + 1) * node->hertz;
+}
+
+uint64_t node_nanoseconds(const struct node *node)
+{
+    return node->clocks * NANOSECONDS / node->hertz;
+}

@@ -1,0 +1,39 @@
+/* A device on the bench: its record, its crystal, its name; and the archive's calls on it. Each call's answer is looked at: a refusal
+   stops the program with a message that names device, call and answer. */
+#ifndef EXAMPLES_NODE_H
+#define EXAMPLES_NODE_H
+
+#include <stdbool.h>
+
+#include "warpmagpie.h"
+
+struct node {
+    const char *name;
+    uint64_t hertz;
+    uint64_t clocks; /* that have passed; clock k is at k/hertz seconds */
+    uint8_t output;  /* output byte of the last clock; 0, nothing driven, before the first */
+    uint8_t answer;  /* of the last call, for the log */
+    uint8_t record[WARPMAGPIE_RECORD_LEN];
+};
+
+void node_start(struct node *node, const char *name, uint64_t hertz);
+void node_write(struct node *node, uint16_t address, uint8_t value);
+uint8_t node_read(struct node *node, uint16_t address);
+uint8_t node_requests(struct node *node);
+void node_take_vector(struct node *node, uint8_t vector);
+
+/* Passes one clock with these pin levels; node->output is what the pins carry after it. */
+void node_clock(struct node *node, uint8_t levels);
+
+/* Whether this node's next clock comes before the other's, or at the same time. Exact: the times are compared as fractions. */
+bool node_is_next(const struct node *node, const struct node *other);
+
+/* Time of the last clock, rounded down. */
+uint64_t node_nanoseconds(const struct node *node);
+
+/* Ends the program with a message: for what must not happen on the bench. */
+_Noreturn void node_stop(const struct node *node, const char *message);
+
+const char *node_register_name(uint16_t address);
+
+#endif

@@ -1,0 +1,147 @@
+/* A doorbell sends firmware to a chime, twice, over a wire; the chime writes it to a flash on its SPI.
+
+   Image 1 arrives whole, though the chime's crystal is 1.5 percent off. During image 2 the chime erases a flash page and does not read
+   UDR0: a frame is lost, the frame after it carries DOR, the chime refuses the image. Exits with 0 if exactly that was seen.
+
+   Usage: rig [--quiet | --sent] [waveform.vcd]
+   --quiet prints the summary only; --sent prints the bytes that have to be on the wires, for tests/host/waves.sh. */
+#include <stdlib.h>
+#include <string.h>
+
+#include "chime.h"
+#include "settings.h"
+
+enum {
+    SEED_1 = 11, /* of the payloads */
+    SEED_2 = 90,
+    OLD_FIRMWARE = 0x00
+};
+static const struct slot SLOT_1 = {.address = 0, .in_use = false}, SLOT_2 = {.address = FLASH_PAGE_LEN, .in_use = true};
+
+enum output { LOG, SUMMARY, SENT };
+
+struct transfer {
+    const struct slot *slot;
+    struct image image;
+    struct report report;
+    int reply; /* that the doorbell got */
+};
+
+static void run(struct bench *bench, struct transfer *transfer, const char *title)
+{
+    log_title(&bench->log, title);
+    doorbell_send(&bench->doorbell, &transfer->image);
+    chime_receive(bench, transfer->slot, &transfer->report);
+    transfer->reply = bench->doorbell.reply;
+    log_gap(&bench->log);
+}
+
+/* The image that was sent is in the chime's flash. */
+static bool came_whole(const struct transfer *transfer)
+{
+    const struct report *report = &transfer->report;
+    return report->accepted && report->count == IMAGE_LEN && memcmp(report->frames, transfer->image.bytes, IMAGE_LEN) == 0 &&
+           memcmp(report->stored, transfer->image.bytes + IMAGE_HEADER_LEN, IMAGE_PAYLOAD_LEN) == 0 &&
+           transfer->reply == REPLY_ACCEPTED;
+}
+
+static size_t frames_lost(const struct transfer *transfer)
+{
+    return transfer->report.count < IMAGE_LEN ? IMAGE_LEN - transfer->report.count : 0;
+}
+
+/* Frames were lost; those before came clean; the first after them, and none before it, carried DOR (document 01, M10). */
+static bool was_overrun(const struct transfer *transfer)
+{
+    const struct report *report = &transfer->report;
+    const uint8_t *sent = transfer->image.bytes;
+    size_t lost = frames_lost(transfer), at = report->errors_at;
+    return lost > 0 && report->errors == WARPMAGPIE_DOR && memcmp(report->frames, sent, at) == 0 &&
+           memcmp(report->frames + at, sent + at + lost, report->count - at) == 0;
+}
+
+static bool was_refused(const struct transfer *transfer)
+{
+    return !transfer->report.accepted && transfer->reply == REPLY_REFUSED;
+}
+
+static void print_summary(int number, const struct transfer *transfer)
+{
+    const struct report *report = &transfer->report;
+    const char *verdict = came_whole(transfer) ? "whole" : was_refused(transfer) ? "refused" : "NOT WHOLE, BUT NOT REFUSED";
+    printf("image %d: ", number);
+    if (was_overrun(transfer))
+        printf("DOR at frame %zu, %zu frame%s lost before it (%d sent, %zu read): %s\n", report->errors_at + 1, frames_lost(transfer),
+               frames_lost(transfer) == 1 ? "" : "s", IMAGE_LEN, report->count, verdict);
+    else
+        printf("%zu of %d bytes, checksum %s: %s\n", report->written, IMAGE_PAYLOAD_LEN,
+               report->checksum_right ? "right" : "wrong", verdict);
+}
+
+static void print_bytes(const char *what, const uint8_t *bytes, size_t len)
+{
+    printf("%s", what);
+    for (size_t i = 0; i < len; i++)
+        printf(" %02X", bytes[i]);
+    putchar('\n');
+}
+
+/* Of the flash: the page program with the payload bytes that the chime gave it, and what a read answers. */
+static void print_sent(const struct transfer *transfer)
+{
+    const uint8_t *payload = transfer->image.bytes + IMAGE_HEADER_LEN;
+    uint8_t reply = transfer->report.accepted ? REPLY_ACCEPTED : REPLY_REFUSED;
+    uint8_t program[FLASH_HEAD_LEN + IMAGE_PAYLOAD_LEN];
+    size_t written = transfer->report.written < IMAGE_PAYLOAD_LEN ? transfer->report.written : IMAGE_PAYLOAD_LEN;
+    flash_head(program, FLASH_PAGE_PROGRAM, transfer->slot->address);
+    memcpy(program + FLASH_HEAD_LEN, payload, written);
+    print_bytes("line", transfer->image.bytes, IMAGE_LEN);
+    print_bytes("reply", &reply, 1);
+    print_bytes("program", program, FLASH_HEAD_LEN + written);
+    if (transfer->report.accepted)
+        print_bytes("read", payload, IMAGE_PAYLOAD_LEN);
+}
+
+static bool options(int argc, char **argv, enum output *output, const char **path)
+{
+    for (int i = 1; i < argc; i++) {
+        if (strcmp(argv[i], "--quiet") == 0)
+            *output = SUMMARY;
+        else if (strcmp(argv[i], "--sent") == 0)
+            *output = SENT;
+        else if (argv[i][0] != '-' && *path == NULL)
+            *path = argv[i];
+        else
+            return false;
+    }
+    return true;
+}
+
+int main(int argc, char **argv)
+{
+    struct transfer first = {.slot = &SLOT_1}, second = {.slot = &SLOT_2};
+    struct bench bench;
+    enum output output = LOG;
+    const char *path = NULL;
+    if (!options(argc, argv, &output, &path)) {
+        fputs("usage: rig [--quiet | --sent] [waveform.vcd]\n", stderr);
+        return EXIT_FAILURE;
+    }
+    image_make(&first.image, SEED_1);
+    image_make(&second.image, SEED_2);
+    bench_start(&bench, path, output == LOG ? stdout : NULL);
+    memset(bench.flash.cells + SLOT_2.address, OLD_FIRMWARE, FLASH_PAGE_LEN);
+    run(&bench, &first, "image 1: the chime reads each frame in time");
+    run(&bench, &second, "image 2: the chime is busy for some frames");
+    bench_stop(&bench);
+
+    if (output == SENT) {
+        printf("baud %d\n", (int)(bench.doorbell.node.hertz / SERIAL_BIT_CLOCKS));
+        print_sent(&first);
+        print_sent(&second);
+    } else {
+        print_summary(1, &first);
+        print_summary(2, &second);
+    }
+    return came_whole(&first) && was_overrun(&second) && was_refused(&second) ? EXIT_SUCCESS : EXIT_FAILURE;
+}

@@ -1,0 +1,526 @@
+/* What the six calls do at the C boundary: with every length of record, levels and outputs, every address and vector, any bytes. Exits with
+   1 at the first difference.
+
+   All is done twice: between guard bytes, which this program looks at itself, and in memory of exactly the length that the call is told, so
+   that valgrind sees a byte too far. Usage: boundary [short]; short tries a part of the addresses and of the runs. */
+#include <stdbool.h>
+#include <stdio.h>
+#include <stdlib.h>
+#include <string.h>
+
+#include "warpmagpie.h"
+
+enum {
+    LONGEST = 130,
+    GUARD_LEN = 16,
+    GUARD = 0xA5,
+    LEVEL_MASK = 0x1F,
+    LEVEL_FIRST_BAD = 0x20,
+    LEVEL_LAST_BAD = 0x80,
+    ADDRESSES = 0x10000,
+    BYTES = 0x100,
+    SHORT_STRIDE = 7, /* prime, so that all low bytes come up */
+    CALLS_IN_A_HISTORY = 200,
+    HISTORIES = 50
+};
+
+/* Unused bytes of the record (docs/RECORD.md). */
+static const size_t UNUSED[] = {43, 44, 45, 46, 47, 60, 61, 62, 63};
+
+static const uint16_t REGISTERS[] = {WARPMAGPIE_UCSR0A, WARPMAGPIE_UCSR0B, WARPMAGPIE_UCSR0C, WARPMAGPIE_UBRR0L, WARPMAGPIE_UBRR0H,
+                                     WARPMAGPIE_UDR0, WARPMAGPIE_SPCR, WARPMAGPIE_SPSR, WARPMAGPIE_SPDR, WARPMAGPIE_DDRB};
+
+#define COUNT(list) (sizeof(list) / sizeof *(list))
+
+struct plan {
+    size_t guard;  /* guard bytes on each side of every piece of memory */
+    size_t stride; /* of addresses and of run lengths */
+};
+
+static void expect(const char *what, size_t place, unsigned got, unsigned wanted)
+{
+    if (got != wanted) {
+        printf("boundary: %s, at %zu: got %u, wanted %u\n", what, place, got, wanted);
+        exit(1);
+    }
+}
+
+static void expect_true(const char *what, size_t place, bool fact)
+{
+    if (!fact) {
+        printf("boundary: %s, at %zu: the bytes differ\n", what, place);
+        exit(1);
+    }
+}
+
+/* ---- memory ---- */
+
+struct piece {
+    uint8_t *memory, *before; /* with the guards; before is what it was */
+    uint8_t *bytes;
+    size_t len, guard;
+};
+
+static uint8_t *take_memory(size_t len)
+{
+    uint8_t *memory = malloc(len);
+    if (memory == NULL && len > 0) {
+        puts("boundary: no memory");
+        exit(1);
+    }
+    return memory;
+}
+
+/* A copy of so many bytes of the source, cut or filled with zeros to len bytes. */
+static struct piece make(const uint8_t *source, size_t source_len, size_t len, size_t guard)
+{
+    size_t whole = len + 2 * guard;
+    struct piece piece = {.memory = take_memory(whole), .before = take_memory(whole), .len = len, .guard = guard};
+    if (whole > 0)
+        memset(piece.memory, GUARD, whole);
+    piece.bytes = piece.memory + guard;
+    if (len > 0) {
+        memset(piece.bytes, 0, len);
+        memcpy(piece.bytes, source, source_len < len ? source_len : len);
+    }
+    if (whole > 0)
+        memcpy(piece.before, piece.memory, whole);
+    return piece;
+}
+
+static struct piece make_filled(uint8_t value, size_t len, size_t guard)
+{
+    uint8_t source[2 * LONGEST];
+    memset(source, value, sizeof source);
+    return make(source, sizeof source, len, guard);
+}
+
+static void drop(struct piece *piece)
+{
+    free(piece->memory);
+    free(piece->before);
+}
+
+static bool same(const uint8_t *a, const uint8_t *b, size_t len)
+{
+    return len == 0 || memcmp(a, b, len) == 0;
+}
+
+static void untouched(const char *what, size_t place, const struct piece *piece)
+{
+    expect_true(what, place, same(piece->memory, piece->before, piece->len + 2 * piece->guard));
+}
+
+static void holds(const char *what, size_t place, const struct piece *piece, const uint8_t *wanted)
+{
+    size_t after = piece->guard + piece->len;
+    expect_true(what, place, same(piece->bytes, wanted, piece->len));
+    expect_true("memory in front of a piece", place, same(piece->memory, piece->before, piece->guard));
+    expect_true("memory behind a piece", place, same(piece->memory + after, piece->before + after, piece->guard));
+}
+
+/* ---- the calls ---- */
+
+enum call { RESET, WRITE, READ, VECTOR, RUN, REQUESTS, CALLS };
+
+static const char *const CALL_NAMES[CALLS] = {"reset", "write", "read", "vector", "run", "requests"};
+
+struct arguments {
+    uint16_t address;
+    uint8_t value, vector;
+    struct piece levels, outputs, result; /* result: one byte, for read and requests */
+};
+
+static uint8_t call(enum call which, struct piece *record, struct arguments *with)
+{
+    uint8_t *bytes = record->bytes;
+    size_t len = record->len;
+    switch (which) {
+    case RESET: return warpmagpie_reset(bytes, len);
+    case WRITE: return warpmagpie_write(bytes, len, with->address, with->value);
+    case READ: return warpmagpie_read(bytes, len, with->address, with->result.bytes);
+    case VECTOR: return warpmagpie_take_vector(bytes, len, with->vector);
+    case RUN: return warpmagpie_run(bytes, len, with->levels.bytes, with->levels.len, with->outputs.bytes, with->outputs.len);
+    default: return warpmagpie_requests(bytes, len, with->result.bytes);
+    }
+}
+
+/* Arguments that are right, or such that each call would refuse them also with a good record. */
+static struct arguments arguments(bool right, size_t guard)
+{
+    return (struct arguments){
+        .address = right ? WARPMAGPIE_UCSR0A : 0,
+        .value = WARPMAGPIE_U2X,
+        .vector = right ? WARPMAGPIE_VECTOR_TXC : BYTES - 1,
+        .levels = make_filled(right ? WARPMAGPIE_LEVEL_RXD : LEVEL_FIRST_BAD, 3, guard),
+        .outputs = make_filled(GUARD, right ? 3 : 2, guard),
+        .result = make_filled(GUARD, 1, guard),
+    };
+}
+
+static void drop_arguments(struct arguments *with)
+{
+    drop(&with->levels);
+    drop(&with->outputs);
+    drop(&with->result);
+}
+
+/* A device that has sent a byte and done an SPI transfer, both interrupts enabled: TXC and SPIF are requested. */
+static void sample(uint8_t record[WARPMAGPIE_RECORD_LEN])
+{
+    static const struct {
+        uint16_t address;
+        uint8_t value;
+    } WRITES[] = {
+        {WARPMAGPIE_UCSR0B, WARPMAGPIE_TXCIE | WARPMAGPIE_RXEN | WARPMAGPIE_TXEN},
+        {WARPMAGPIE_DDRB, WARPMAGPIE_DDRB_SS | WARPMAGPIE_DDRB_MOSI | WARPMAGPIE_DDRB_SCK},
+        {WARPMAGPIE_SPCR, WARPMAGPIE_SPIE | WARPMAGPIE_SPE | WARPMAGPIE_MSTR},
+        {WARPMAGPIE_UDR0, 0x55},
+        {WARPMAGPIE_SPDR, 0xAA},
+    };
+    uint8_t levels[200], outputs[sizeof levels], requests;
+    memset(levels, WARPMAGPIE_LEVEL_RXD | WARPMAGPIE_LEVEL_SS, sizeof levels);
+    expect("reset", 0, warpmagpie_reset(record, WARPMAGPIE_RECORD_LEN), WARPMAGPIE_DONE);
+    for (size_t i = 0; i < COUNT(WRITES); i++)
+        expect("write", i, warpmagpie_write(record, WARPMAGPIE_RECORD_LEN, WRITES[i].address, WRITES[i].value), WARPMAGPIE_DONE);
+    expect("run", 0, warpmagpie_run(record, WARPMAGPIE_RECORD_LEN, levels, sizeof levels, outputs, sizeof outputs), WARPMAGPIE_DONE);
+    expect("requests", 0, warpmagpie_requests(record, WARPMAGPIE_RECORD_LEN, &requests), WARPMAGPIE_DONE);
+    expect("requests of the sample", 0, requests, WARPMAGPIE_REQUEST_TXC | WARPMAGPIE_REQUEST_SPIF);
+}
+
+static uint64_t next_random(uint64_t *state)
+{
+    *state ^= *state << 13;
+    *state ^= *state >> 7;
+    *state ^= *state << 17;
+    return *state;
+}
+
+/* ---- records ---- */
+
+/* Refused with 5: nothing touched; the result of a read or of requests is 0, and no other call writes there. */
+static void refuses_record(enum call which, struct piece *record, bool right, size_t place)
+{
+    struct arguments with = arguments(right, record->guard);
+    bool answers = which == READ || which == REQUESTS;
+    uint8_t wanted = answers ? 0 : GUARD;
+    expect(CALL_NAMES[which], place, call(which, record, &with), WARPMAGPIE_RECORD);
+    untouched("record of a refused call", place, record);
+    untouched("levels of a refused call", place, &with.levels);
+    untouched("outputs of a refused call", place, &with.outputs);
+    holds("result of a refused call", place, &with.result, &wanted);
+    drop_arguments(&with);
+}
+
+static void accepts_record(enum call which, struct piece *record, size_t place)
+{
+    struct arguments with = arguments(true, record->guard);
+    expect(CALL_NAMES[which], place, call(which, record, &with), WARPMAGPIE_DONE);
+    holds("record", place, record, record->bytes);
+    holds("outputs", place, &with.outputs, with.outputs.bytes);
+    untouched("levels", place, &with.levels);
+    if (which == READ)
+        expect("UCSR0A", place, with.result.bytes[0], WARPMAGPIE_TXC | WARPMAGPIE_UDRE);
+    if (which == REQUESTS) {
+        expect("requests", place, with.result.bytes[0], WARPMAGPIE_REQUEST_TXC | WARPMAGPIE_REQUEST_SPIF);
+        untouched("record after requests", place, record);
+    }
+    drop_arguments(&with);
+}
+
+static void record_lengths(const struct plan *plan)
+{
+    uint8_t good[WARPMAGPIE_RECORD_LEN];
+    sample(good);
+    for (size_t len = 0; len <= LONGEST; len++)
+        for (int which = 0; which < CALLS; which++)
+            for (int right = 0; right <= 1; right++) {
+                struct piece record = make(good, sizeof good, len, plan->guard);
+                if (len != WARPMAGPIE_RECORD_LEN)
+                    refuses_record(which, &record, right, len);
+                else if (right)
+                    accepts_record(which, &record, len);
+                drop(&record);
+            }
+}
+
+/* A byte of the record that is not in use and not 0: every call but reset refuses, before it looks at anything else. */
+static void unused_bytes(const struct plan *plan)
+{
+    uint8_t bytes[WARPMAGPIE_RECORD_LEN];
+    for (size_t i = 0; i < COUNT(UNUSED); i++)
+        for (unsigned value = 1; value < BYTES; value += plan->stride)
+            for (int which = WRITE; which < CALLS; which++) {
+                sample(bytes);
+                bytes[UNUSED[i]] = (uint8_t)value;
+                struct piece record = make(bytes, sizeof bytes, sizeof bytes, plan->guard);
+                refuses_record(which, &record, value & 1, UNUSED[i]);
+                drop(&record);
+            }
+}
+
+/* Whatever one byte of the record is changed to, either all calls but reset take the record or none does. */
+static void calls_agree(const struct plan *plan)
+{
+    uint8_t good[WARPMAGPIE_RECORD_LEN];
+    sample(good);
+    for (size_t place = 0; place < sizeof good; place++)
+        for (unsigned value = 0; value < BYTES; value += plan->stride) {
+            unsigned refused = 0;
+            for (int which = WRITE; which < CALLS; which++) {
+                struct piece record = make(good, sizeof good, sizeof good, plan->guard);
+                struct arguments with = arguments(true, plan->guard);
+                record.bytes[place] = (uint8_t)value;
+                refused += call(which, &record, &with) == WARPMAGPIE_RECORD;
+                drop_arguments(&with);
+                drop(&record);
+            }
+            expect("calls that refuse a record", place, refused, refused == 0 ? 0 : CALLS - 1);
+        }
+}
+
+static void resets(const struct plan *plan)
+{
+    uint8_t after_reset[WARPMAGPIE_RECORD_LEN], bytes[WARPMAGPIE_RECORD_LEN];
+    uint64_t random = 1;
+    memset(after_reset, 0, sizeof after_reset);
+    expect("reset", 0, warpmagpie_reset(after_reset, sizeof after_reset), WARPMAGPIE_DONE);
+    for (size_t n = 0; n < 1000; n += plan->stride) {
+        for (size_t i = 0; i < sizeof bytes; i++)
+            bytes[i] = (uint8_t)(next_random(&random) >> 32);
+        struct piece record = make(bytes, sizeof bytes, sizeof bytes, plan->guard);
+        expect("reset of random bytes", n, warpmagpie_reset(record.bytes, record.len), WARPMAGPIE_DONE);
+        holds("record after reset", n, &record, after_reset);
+        drop(&record);
+    }
+}
+
+/* ---- runs ---- */
+
+static struct piece random_levels(uint64_t *random, size_t len, size_t guard)
+{
+    uint8_t levels[LONGEST];
+    for (size_t i = 0; i < len; i++)
+        levels[i] = (uint8_t)(next_random(random) >> 32) & LEVEL_MASK;
+    return make(levels, len, len, guard);
+}
+
+/* The same clocks in runs of one. */
+static void clock_by_clock(uint8_t *record, const struct piece *levels, uint8_t *outputs)
+{
+    for (size_t i = 0; i < levels->len; i++)
+        expect("run of one clock", i, warpmagpie_run(record, WARPMAGPIE_RECORD_LEN, levels->bytes + i, 1, outputs + i, 1), WARPMAGPIE_DONE);
+}
+
+static uint8_t run(struct piece *record, const struct piece *levels, struct piece *outputs)
+{
+    return warpmagpie_run(record->bytes, record->len, levels->bytes, levels->len, outputs->bytes, outputs->len);
+}
+
+static void run_of(const struct plan *plan, uint64_t *random, size_t levels_len, size_t outputs_len)
+{
+    uint8_t after[WARPMAGPIE_RECORD_LEN], wanted[LONGEST];
+    sample(after);
+    expect("write", 0, warpmagpie_write(after, sizeof after, WARPMAGPIE_UDR0, 0x35), WARPMAGPIE_DONE);
+    expect("write", 1, warpmagpie_write(after, sizeof after, WARPMAGPIE_SPDR, 0xC3), WARPMAGPIE_DONE);
+    struct piece record = make(after, sizeof after, sizeof after, plan->guard);
+    struct piece levels = random_levels(random, levels_len, plan->guard), outputs = make_filled(GUARD, outputs_len, plan->guard);
+    if (levels_len == outputs_len) {
+        clock_by_clock(after, &levels, wanted);
+        expect("run", levels_len, run(&record, &levels, &outputs), WARPMAGPIE_DONE);
+        holds("record after a run", levels_len, &record, after);
+        holds("outputs of a run", levels_len, &outputs, wanted);
+    } else {
+        if (levels_len % 2 == 1) /* 6 comes before 7 */
+            levels.bytes[levels_len - 1] = levels.before[plan->guard + levels_len - 1] = LEVEL_LAST_BAD;
+        expect("run", levels_len, run(&record, &levels, &outputs), WARPMAGPIE_LENGTH);
+        untouched("record after answer 6", levels_len, &record);
+        untouched("outputs after answer 6", levels_len, &outputs);
+    }
+    untouched("levels", levels_len, &levels);
+    drop(&record);
+    drop(&levels);
+    drop(&outputs);
+}
+
+static void run_lengths(const struct plan *plan)
+{
+    uint64_t random = 2;
+    for (size_t len = 0; len <= LONGEST; len++) {
+        run_of(plan, &random, len, len);
+        run_of(plan, &random, len, len + 1);
+        run_of(plan, &random, len, 0);
+        if (len > 0)
+            run_of(plan, &random, len, len - 1);
+    }
+}
+
+/* One bad level byte, at each place of a run of each length: no clock passes, not even those before it. */
+static void bad_levels(const struct plan *plan)
+{
+    uint64_t random = 3;
+    uint8_t good[WARPMAGPIE_RECORD_LEN];
+    sample(good);
+    struct piece record = make(good, sizeof good, sizeof good, plan->guard);
+    for (size_t len = 1; len <= LONGEST; len += plan->stride) {
+        struct piece levels = random_levels(&random, len, plan->guard), outputs = make_filled(GUARD, len, plan->guard);
+        for (size_t place = 0; place < len; place++)
+            for (unsigned bad = LEVEL_FIRST_BAD; bad <= LEVEL_LAST_BAD; bad *= 2) {
+                uint8_t kept = levels.bytes[place];
+                levels.bytes[place] = kept | (uint8_t)bad;
+                expect("run with a bad level", place, run(&record, &levels, &outputs), WARPMAGPIE_LEVEL);
+                untouched("record after answer 7", place, &record);
+                untouched("outputs after answer 7", place, &outputs);
+                levels.bytes[place] = kept;
+            }
+        untouched("levels", len, &levels);
+        drop(&levels);
+        drop(&outputs);
+    }
+    drop(&record);
+}
+
+/* The header asks for pointers that are not null even where the length is 0. Programs in C pass null there nevertheless, so it is tried. */
+static void null_pointers(const struct plan *plan)
+{
+    uint8_t good[WARPMAGPIE_RECORD_LEN];
+    sample(good);
+    struct piece record = make(good, sizeof good, sizeof good, plan->guard);
+    expect("run of no clocks, null", 0, warpmagpie_run(record.bytes, record.len, NULL, 0, NULL, 0), WARPMAGPIE_DONE);
+    untouched("record after no clocks", 0, &record);
+    drop(&record);
+    struct piece none = {.memory = NULL, .before = NULL, .bytes = NULL, .len = 0, .guard = 0};
+    for (int which = 0; which < CALLS; which++)
+        refuses_record(which, &none, true, 0);
+}
+
+/* ---- addresses and vectors ---- */
+
+static bool is_register(unsigned address)
+{
+    for (size_t i = 0; i < COUNT(REGISTERS); i++)
+        if (REGISTERS[i] == address)
+            return true;
+    return false;
+}
+
+/* Zero may be written to every register of the sample: nothing is under way in it. */
+static void address_of(const struct plan *plan, const uint8_t *good, unsigned address)
+{
+    uint8_t answer = is_register(address) ? WARPMAGPIE_DONE : WARPMAGPIE_UNKNOWN;
+    struct arguments with = arguments(true, plan->guard);
+    with.address = (uint16_t)address;
+    with.value = 0;
+    for (int which = WRITE; which <= READ; which++) {
+        struct piece record = make(good, WARPMAGPIE_RECORD_LEN, WARPMAGPIE_RECORD_LEN, plan->guard);
+        expect(CALL_NAMES[which], address, call(which, &record, &with), answer);
+        if (answer == WARPMAGPIE_DONE)
+            holds("record", address, &record, record.bytes);
+        else
+            untouched("record after answer 1", address, &record);
+        if (which == READ && answer != WARPMAGPIE_DONE)
+            expect("result of a refused read", address, with.result.bytes[0], 0);
+        drop(&record);
+    }
+    holds("result", address, &with.result, with.result.bytes);
+    drop_arguments(&with);
+}
+
+static void addresses(const struct plan *plan)
+{
+    uint8_t good[WARPMAGPIE_RECORD_LEN];
+    sample(good);
+    for (unsigned address = 0; address < ADDRESSES; address += address < BYTES ? 1 : plan->stride)
+        address_of(plan, good, address);
+}
+
+/* After the sample both vectors are requested, after reset none is. */
+static void vectors(const struct plan *plan)
+{
+    uint8_t bytes[WARPMAGPIE_RECORD_LEN];
+    for (int requested = 0; requested <= 1; requested++)
+        for (unsigned vector = 0; vector < BYTES; vector++) {
+            uint8_t known = requested ? WARPMAGPIE_DONE : WARPMAGPIE_UNREQUESTED;
+            uint8_t answer = vector <= WARPMAGPIE_VECTOR_SPIF ? known : WARPMAGPIE_UNKNOWN;
+            sample(bytes);
+            if (!requested)
+                expect("reset", vector, warpmagpie_reset(bytes, sizeof bytes), WARPMAGPIE_DONE);
+            struct piece record = make(bytes, sizeof bytes, sizeof bytes, plan->guard);
+            expect("vector", vector, warpmagpie_take_vector(record.bytes, record.len, (uint8_t)vector), answer);
+            if (answer != WARPMAGPIE_DONE) {
+                untouched("record after a refused vector", vector, &record);
+            } else {
+                holds("record after a vector", vector, &record, record.bytes);
+                expect("the same vector again", vector, warpmagpie_take_vector(record.bytes, record.len, (uint8_t)vector),
+                       WARPMAGPIE_UNREQUESTED);
+            }
+            drop(&record);
+        }
+}
+
+/* ---- copies ---- */
+
+/* A call chosen by the random number, on the record; answers what it gave, outputs included, as one number. */
+static uint64_t random_call(struct piece *record, uint64_t *random)
+{
+    uint64_t seen, choice = next_random(random) >> 16;
+    struct arguments with = arguments(true, record->guard);
+    drop(&with.levels);
+    drop(&with.outputs);
+    with.address = REGISTERS[choice / CALLS % COUNT(REGISTERS)];
+    with.value = (uint8_t)(choice >> 32);
+    with.vector = with.value & 1;
+    with.levels = random_levels(random, with.value % LONGEST, record->guard);
+    with.outputs = make_filled(GUARD, with.levels.len, record->guard);
+    /* Reset would make any two records alike. */
+    seen = call(WRITE + (int)(choice % (CALLS - 1)), record, &with);
+    for (size_t i = 0; i < with.outputs.len; i++)
+        seen = seen * 31 + with.outputs.bytes[i];
+    seen = seen * 31 + with.result.bytes[0];
+    drop_arguments(&with);
+    return seen;
+}
+
+static uint64_t random_history(struct piece *record, uint64_t random)
+{
+    uint64_t seen = 0;
+    for (int i = 0; i < CALLS_IN_A_HISTORY; i++)
+        seen = seen * 31 + random_call(record, &random);
+    return seen;
+}
+
+/* A record copied between two calls, to memory at any alignment: original and copy go on alike. */
+static void copies(const struct plan *plan)
+{
+    uint8_t good[WARPMAGPIE_RECORD_LEN];
+    sample(good);
+    for (size_t n = 0; n < HISTORIES; n += plan->stride) {
+        struct piece original = make(good, sizeof good, sizeof good, plan->guard);
+        random_history(&original, 4 + n);
+        struct piece copy = make(original.bytes, original.len, original.len, n % GUARD_LEN);
+        uint64_t seen = random_history(&original, 1000 + n);
+        expect_true("answers on a copied record", n, random_history(&copy, 1000 + n) == seen);
+        holds("copied record", n, &copy, original.bytes);
+        drop(&original);
+        drop(&copy);
+    }
+}
+
+int main(int argc, char **argv)
+{
+    struct plan plan = {.stride = argc > 1 && strcmp(argv[1], "short") == 0 ? SHORT_STRIDE : 1};
+    for (int exact = 0; exact <= 1; exact++) {
+        plan.guard = exact ? 0 : GUARD_LEN;
+        record_lengths(&plan);
+        unused_bytes(&plan);
+        calls_agree(&plan);
+        resets(&plan);
+        run_lengths(&plan);
+        bad_levels(&plan);
+        null_pointers(&plan);
+        addresses(&plan);
+        vectors(&plan);
+        copies(&plan);
+    }
+    return 0;
+}

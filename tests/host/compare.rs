@@ -1,0 +1,92 @@
+//! Compares the archive `libwarpmagpie.a` with the model in model/: random histories, random devices, damaged records,
+//! lines at the limits of the rate error, and devices joined by wires.
+//!
+//! compare [--seed N] [--scale K]
+
+#[forbid(unsafe_code)]
+mod model;
+
+#[path = "compare/archive.rs"]
+mod archive;
+#[path = "compare/call.rs"]
+mod call;
+#[path = "compare/choice.rs"]
+mod choice;
+#[path = "compare/damage.rs"]
+mod damage;
+#[path = "compare/devices.rs"]
+mod devices;
+#[path = "compare/difference.rs"]
+mod difference;
+#[path = "compare/histories.rs"]
+mod histories;
+#[path = "compare/levels.rs"]
+mod levels;
+#[path = "compare/lines.rs"]
+mod lines;
+#[path = "compare/pair.rs"]
+mod pair;
+#[path = "compare/random.rs"]
+mod random;
+#[path = "compare/rates.rs"]
+mod rates;
+#[path = "compare/tally.rs"]
+mod tally;
+#[path = "compare/wires.rs"]
+mod wires;
+
+use random::Random;
+use tally::Tally;
+
+const SEED: u64 = 20240328;
+
+type Part = fn(u64, &mut Random, &mut Tally) -> Result<(), String>;
+
+/// The parts, and how many histories, devices, records or rounds each does at scale 1.
+const PARTS: [(&str, Part, u64); 5] = [
+    ("random histories", histories::run, 36_000),
+    ("random valid devices", devices::run, 1_400_000),
+    ("damaged records", damage::run, 4_500_000),
+    ("lines at the limits", lines::run, 35),
+    ("devices joined by wires", wires::run, 35),
+];
+
+fn main() {
+    let outcome = arguments().and_then(|(seed, scale)| {
+        compare_all(seed, scale).map_err(|text| format!("seed {seed}, scale {scale}, {text}"))
+    });
+    if let Err(text) = outcome {
+        println!("{text}");
+        std::process::exit(1);
+    }
+}
+
+fn arguments() -> Result<(u64, u64), String> {
+    let (mut seed, mut scale) = (SEED, 1);
+    let mut words = std::env::args().skip(1);
+    while let Some(word) = words.next() {
+        let value = words.next().and_then(|value| value.parse().ok());
+        match (word.as_str(), value) {
+            ("--seed", Some(value)) => seed = value,
+            ("--scale", Some(value)) if value > 0 => scale = value,
+            _ => return Err("usage: compare [--seed N] [--scale K]".to_string()),
+        }
+    }
+    Ok((seed, scale))
+}
+
+fn compare_all(seed: u64, scale: u64) -> Result<(), String> {
+    let mut tally = Tally::default();
+    for (number, (name, part, count)) in PARTS.iter().enumerate() {
+        // A part's own random numbers, so that a change in one leaves the others alone.
+        let mut random = Random::new(seed.wrapping_mul(8).wrapping_add(number as u64));
+        part(count * scale, &mut random, &mut tally)
+            .map_err(|text| format!("part {} ({name}): {text}", number + 1))?;
+    }
+    tally.complete()?;
+    println!("{:34}{seed:>12}", "seed");
+    println!("{:34}{scale:>12}", "scale");
+    tally.print();
+    println!("no difference");
+    Ok(())
+}

@@ -1,0 +1,157 @@
+//! Part 2: random valid devices, each field random within its range in docs/RECORD.md, also states no history reaches.
+
+use crate::choice::random_call;
+use crate::levels::Levels;
+use crate::model::frame::{Format, Parity};
+use crate::model::receiver::{Line, Received, Receiver, Receiving};
+use crate::model::sender::{Sender, Shifting};
+use crate::model::spi::{Flag, Spi, MSTR, SPE};
+use crate::model::usart::Usart;
+use crate::model::Device;
+use crate::pair::Pair;
+use crate::random::Random;
+use crate::tally::Tally;
+
+const CALLS: u64 = 6;
+const LONGEST_RUN: u64 = 80;
+
+pub fn run(devices: u64, random: &mut Random, tally: &mut Tally) -> Result<(), String> {
+    for number in 0..devices {
+        let mut pair = Pair::of(random_device(random))?;
+        let mut levels = Levels::new();
+        for call_number in 0..CALLS {
+            let call = random_call(&pair.device, &mut levels, LONGEST_RUN, random);
+            pair.call(call, tally)
+                .map_err(|text| format!("device {number}, call {call_number}: {text}"))?;
+        }
+    }
+    Ok(())
+}
+
+pub fn random_device(random: &mut Random) -> Device {
+    let format = random_format(random);
+    let ubrr = random_baud(random);
+    Device {
+        usart: Usart {
+            format,
+            ubrr,
+            counter: if random.percent(50) {
+                random.between(0, ubrr as u64) as u16
+            } else {
+                random_baud(random)
+            },
+            rxcie: random.flip(),
+            txcie: random.flip(),
+            udrie: random.flip(),
+            sender: random_sender(&format, random),
+            receiver: random_receiver(&format, random),
+        },
+        spi: random_spi(random),
+    }
+}
+
+pub fn random_format(random: &mut Random) -> Format {
+    Format {
+        data_bits: random.between(5, 9) as u8,
+        parity: random.pick(&[Parity::Off, Parity::Even, Parity::Odd]),
+        two_stops: random.flip(),
+        double_speed: random.flip(),
+    }
+}
+
+/// UBRR or the baud counter: mostly small, so that ticks come in short runs.
+fn random_baud(random: &mut Random) -> u16 {
+    if random.percent(75) {
+        random.below(4) as u16
+    } else {
+        random.below(4096) as u16
+    }
+}
+
+fn random_sender(format: &Format, random: &mut Random) -> Sender {
+    let shifting = Shifting {
+        bit: random.between(0, format.last_bit() as u64) as u8,
+        ticks: random.below(format.ticks() as u64) as u8,
+        ..Shifting::start(random.next() as u16 & format.word_mask(), format)
+    };
+    Sender {
+        txen: random.flip(),
+        txb8: random.flip(),
+        txc: random.flip(),
+        buffer: random
+            .flip()
+            .then_some(random.next() as u16 & format.data_mask()),
+        shifter: random.flip().then_some(shifting),
+    }
+}
+
+fn random_receiver(format: &Format, random: &mut Random) -> Receiver {
+    if random.percent(25) {
+        return Receiver::reset();
+    }
+    let oldest = random.percent(70).then_some(random_received(random));
+    let second = random.percent(50).then_some(random_received(random));
+    let line = match random.flip() {
+        false => Line::Idle {
+            last: random.flip(),
+        },
+        true => Line::Frame(random_receiving(format, random)),
+    };
+    Receiver {
+        rxen: true,
+        line,
+        oldest,
+        second: oldest.and(second),
+        lost: random.flip(),
+    }
+}
+
+fn random_receiving(format: &Format, random: &mut Random) -> Receiving {
+    let stop_bit = format.word_bits() + 1;
+    let bit = random.between(0, stop_bit as u64) as u8;
+    let first = if bit == 0 { 1 } else { 0 };
+    let limit = if bit == stop_bit {
+        format.last_vote()
+    } else {
+        format.ticks()
+    };
+    Receiving {
+        bit,
+        samples: random.between(first, limit as u64 - 1) as u8,
+        votes: [random.flip(), random.flip()],
+        word: random.next() as u16 & format.word_mask(),
+    }
+}
+
+fn random_received(random: &mut Random) -> Received {
+    Received {
+        data: random.below(512) as u16,
+        fe: random.flip(),
+        upe: random.flip(),
+        dor: random.flip(),
+    }
+}
+
+fn random_spi(random: &mut Random) -> Spi {
+    let flags = [Flag::Clear, Flag::Set, Flag::Armed];
+    let mut spi = Spi {
+        spcr: random.byte() | if random.percent(60) { SPE } else { 0 },
+        spi2x: random.flip(),
+        ddrb: random.byte(),
+        shift: random.byte(),
+        buffer: random.byte(),
+        spif: random.pick(&flags),
+        wcol: random.pick(&flags),
+        mosi: random.flip(),
+        miso: random.flip(),
+        sck: random.flip(),
+        ..Spi::reset()
+    };
+    if spi.spcr & SPE != 0 && random.percent(70) {
+        spi.edges = random.below(16) as u8;
+        if spi.spcr & MSTR != 0 {
+            spi.clocks_left = random.between(1, spi.half() as u64) as u8;
+        }
+    }
+    spi
+}

@@ -1,0 +1,87 @@
+//! What was done in all parts together, and the table at the end.
+
+use crate::call::Call;
+use crate::model::{level, spi, Device};
+
+pub const KINDS: [&str; 6] = ["reset", "write", "read", "take vector", "run", "requests"];
+
+#[derive(Default)]
+pub struct Tally {
+    pub calls: [u64; 6],
+    pub clocks: u64,
+    pub frames_received: u64,
+    pub frames_sent: u64,
+    pub spi_bytes: u64,
+    /// By number; 0 is not a refusal.
+    pub numbers: [u64; 9],
+    pub damaged_refused: u64,
+    pub damaged_accepted: u64,
+    /// The least count over the bytes of the record: refusals, and acceptances, with that byte alone damaged.
+    pub least_refused: u64,
+    pub least_accepted: u64,
+    pub line_frames: u64,
+    pub wire_frames: u64,
+    pub wire_bytes: u64,
+}
+
+impl Tally {
+    pub fn count_call(&mut self, call: &Call, number: u8) {
+        self.calls[call.kind()] += 1;
+        self.numbers[number as usize] += 1;
+    }
+
+    /// Counts what one clock of the model brought.
+    pub fn count_clock(&mut self, before: &Device, after: &Device, level: u8) {
+        self.clocks += 1;
+        let (old, new) = (&before.usart.receiver, &after.usart.receiver);
+        let stored = old.oldest.is_none() && new.oldest.is_some()
+            || old.second.is_none() && new.second.is_some();
+        self.frames_received += stored as u64;
+        // A buffer emptied by a clock has moved to the shifter.
+        self.frames_sent +=
+            (before.usart.sender.buffer.is_some() && after.usart.sender.buffer.is_none()) as u64;
+        // After edge 15 the count goes back to 0 by edge 16, or by SS, or because a master became a slave.
+        let master = before.spi.spcr & spi::MSTR != 0;
+        let stayed = after.spi.spcr == before.spi.spcr && (master || level & level::SS == 0);
+        self.spi_bytes += (before.spi.edges == 15 && after.spi.edges == 0 && stayed) as u64;
+    }
+
+    /// Every refusal must have been met.
+    pub fn complete(&self) -> Result<(), String> {
+        match (1..=8).find(|&number| self.numbers[number] == 0) {
+            Some(number) => Err(format!(
+                "number {number} was never given: the histories are too short"
+            )),
+            None => Ok(()),
+        }
+    }
+
+    pub fn print(&self) {
+        for (kind, calls) in KINDS.iter().zip(self.calls) {
+            println!("{:34}{calls:>12}", format!("calls, {kind}"));
+        }
+        let rows = [
+            ("clocks", self.clocks),
+            ("frames received", self.frames_received),
+            ("frames sent", self.frames_sent),
+            ("SPI bytes", self.spi_bytes),
+            ("damaged records refused", self.damaged_refused),
+            ("damaged records accepted", self.damaged_accepted),
+            ("least refused by one byte alone", self.least_refused),
+            ("least accepted by one byte alone", self.least_accepted),
+            ("frames on lines at the limits", self.line_frames),
+            ("frames from device to device", self.wire_frames),
+            ("SPI bytes from device to device", self.wire_bytes),
+        ];
+        for (name, count) in rows {
+            println!("{name:34}{count:>12}");
+        }
+        for number in 1..=8 {
+            println!(
+                "{:34}{:>12}",
+                format!("refusals with {number}"),
+                self.numbers[number]
+            );
+        }
+    }
+}

@@ -1,0 +1,171 @@
+//! The receiver (document 01, 'Receiver'): sampling and voting of RxD, and the buffer of two frames.
+
+use super::frame::{Format, Parity};
+
+/// A frame in the receive buffer.
+#[derive(Clone, Copy, PartialEq, Debug)]
+pub struct Received {
+    pub data: u16,
+    pub fe: bool,
+    pub upe: bool,
+    pub dor: bool,
+}
+
+/// A frame between its first low sample and its stop decision.
+#[derive(Clone, Copy, PartialEq, Debug)]
+pub struct Receiving {
+    /// The bit being sampled: 0 the start bit, D + 1 the first stop bit.
+    pub bit: u8,
+    /// Samples of that bit that have been taken.
+    pub samples: u8,
+    /// The first two votes of the bit being sampled, low until they are taken. Neither document 01 nor docs/RECORD.md
+    /// says what stands here between votes; this is the archive's way, and no answer depends on it.
+    pub votes: [bool; 2],
+    /// The bits decided so far, shifted in at the top of D bits.
+    pub word: u16,
+}
+
+#[derive(Clone, Copy, PartialEq, Debug)]
+pub enum Line {
+    Idle { last: bool },
+    Frame(Receiving),
+}
+
+#[derive(Clone, Copy, PartialEq, Debug)]
+pub struct Receiver {
+    pub rxen: bool,
+    pub line: Line,
+    pub oldest: Option<Received>,
+    pub second: Option<Received>,
+    /// A frame was lost; the next one stored carries DOR.
+    pub lost: bool,
+}
+
+impl Receiver {
+    /// A disabled receiver; one just enabled differs in RXEN alone, since enabling makes it remember low.
+    pub fn reset() -> Receiver {
+        Receiver {
+            rxen: false,
+            line: Line::Idle { last: false },
+            oldest: None,
+            second: None,
+            lost: false,
+        }
+    }
+
+    /// Sets RXEN. Clearing it drops the frame under way, the buffer and a pending loss.
+    pub fn enable(&mut self, rxen: bool) {
+        if rxen != self.rxen {
+            *self = Receiver { rxen, ..Receiver::reset() };
+        }
+    }
+
+    #[inline]
+    pub fn busy(&self) -> bool {
+        matches!(self.line, Line::Frame(_))
+    }
+
+    /// A read of UDR0: takes the oldest frame away; 0 when there is none.
+    pub fn take(&mut self) -> u8 {
+        let data = self.oldest.map_or(0, |frame| frame.data as u8);
+        self.oldest = self.second.take();
+        data
+    }
+
+    /// A tick of the baud clock: one sample of RxD.
+    #[inline]
+    pub fn tick(&mut self, rxd: bool, format: &Format) {
+        if !self.rxen {
+            return;
+        }
+        match &mut self.line {
+            // A low line after a broken frame is no start: a high sample must come first.
+            Line::Idle { last: true } if !rxd => {
+                self.line = Line::Frame(Receiving {
+                    bit: 0,
+                    samples: 1,
+                    votes: [false; 2],
+                    word: 0,
+                });
+            }
+            Line::Idle { last } => *last = rxd,
+            Line::Frame(frame) => {
+                if frame.sample(rxd, format) {
+                    let ended = *frame;
+                    self.end(&ended, rxd, format);
+                }
+            }
+        }
+    }
+
+    /// The frame under way ends at this sample: a dropped start bit, or the stop bit's last vote.
+    fn end(&mut self, frame: &Receiving, rxd: bool, format: &Format) {
+        if frame.bit > 0 {
+            self.store(frame.word, !frame.majority(rxd), format);
+        }
+        self.line = Line::Idle { last: rxd };
+    }
+
+    /// Puts a completed frame into the buffer, or loses it when both places are full.
+    fn store(&mut self, word: u16, fe: bool, format: &Format) {
+        if self.second.is_some() {
+            self.lost = true;
+            return;
+        }
+        let data = word & format.data_mask();
+        let upe = format.parity != Parity::Off && word != format.word_of(data);
+        let frame = Received {
+            data,
+            fe,
+            upe,
+            dor: self.lost,
+        };
+        self.lost = false;
+        if self.oldest.is_none() {
+            self.oldest = Some(frame);
+        } else {
+            self.second = Some(frame);
+        }
+    }
+}
+
+impl Receiving {
+    /// The majority of the two votes kept and the last one.
+    #[inline]
+    pub fn majority(&self, last: bool) -> bool {
+        let [first, second] = self.votes;
+        first & second | last & (first | second)
+    }
+
+    /// One more sample. True when the frame ends with it.
+    #[inline]
+    fn sample(&mut self, rxd: bool, format: &Format) -> bool {
+        self.samples += 1;
+        let last_vote = format.last_vote();
+        if self.samples + 2 == last_vote {
+            self.votes[0] = rxd;
+        } else if self.samples + 1 == last_vote {
+            self.votes[1] = rxd;
+        } else if self.samples == last_vote {
+            return self.decide(rxd, format);
+        } else if self.samples == format.ticks() {
+            self.bit += 1;
+            self.samples = 0;
+            self.votes = [false; 2];
+        }
+        false
+    }
+
+    /// The last vote of a bit. True when the frame ends: a start bit voted high, or the stop bit.
+    fn decide(&mut self, rxd: bool, format: &Format) -> bool {
+        let high = self.majority(rxd);
+        if self.bit == 0 {
+            return high;
+        }
+        if self.bit > format.word_bits() {
+            return true;
+        }
+        self.word = self.word >> 1 | (high as u16) << (format.word_bits() - 1);
+        false
+    }
+}
