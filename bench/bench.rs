@@ -14,7 +14,7 @@ use std::hint::black_box;
 use std::time::Instant;
 
 /// Rounds of each row. The fastest counts, for either side: what else the machine does can only slow a round down.
-const ROUNDS: usize = 60;
+const ROUNDS: usize = 400;
 
 const RUN_LIMIT: f64 = 1.2;
 const SINGLE_LIMIT: f64 = 20.0;
