@@ -10,3 +10,4 @@ pub use answer::Refusal;
 pub use answer::Written;
 pub use unit::Clocked;
 pub use unit::Device;
+pub use unit::levels;

@@ -1,5 +1,4 @@
 use device::Device;
-use spi::Levels;
 use spi::Spi;
 use usart::Usart;
 ghost use mathlib.Core.Path.{_≡_};
@@ -8,23 +7,10 @@ ghost use mathlib.Core.List.{_++_};
 ghost use Prim.Native.Nat.{_+_, _-_, _%_, _<_, _≤_};
 ghost use lib.ListN.{length, take, drop, replicate};
 ghost use Rattle.spi.specs.Control.{isEnabled, isCommanding};
-ghost use Rattle.device.specs.Unit.{levelsIn};
 ghost use Rattle.device.specs.Run.{ranOf, outputsOf, serialRan, serialOutputs, spiRan, spiOutputs, sumsOf};
 
 // The two units never look at each other, so a run goes through the level bytes once for each: the state of one unit is small enough to stay in
 // the processor's registers. The serial unit writes the output bytes, the SPI adds its bits.
-
-// MISO, MOSI, SCK and SS in bits 1 to 4 of a level byte.
-fn levels_in(level: u8) -> Levels
-    ensures { λ r. ⌜ r ≡ levelsIn level ⌝ }
-{
-    Levels {
-        miso: level / 2 % 2 == 1,
-        mosi: level / 4 % 2 == 1,
-        sck: level / 8 % 2 == 1,
-        ss: level / 16 % 2 == 1,
-    }
-}
 
 fn sum(a: u8, b: u8) -> u8
     ensures { λ r. ⌜ r ≡ (a + b) % 256 ⌝ }
@@ -102,7 +88,7 @@ fn spi_clocks(s: Spi, levels: &[u8], outputs: &mut [u8]) -> Spi
     let mut state = s;
     let mut i = 0;
     while i < levels.len() {
-        let l = levels_in(levels[i]);
+        let l = device::levels(levels[i]);
         state = state.clock(l);
         outputs[i] = sum(outputs[i], state.output(l.ss));
         i += 1;
@@ -120,7 +106,7 @@ fn master_clocks(s: Spi, levels: &[u8], outputs: &mut [u8]) -> Spi
     let mut state = s;
     let mut i = 0;
     while i < levels.len() {
-        let l = levels_in(levels[i]);
+        let l = device::levels(levels[i]);
         state = state.commanded(l);
         outputs[i] = sum(outputs[i], state.output(l.ss));
         i += 1;
@@ -137,7 +123,7 @@ fn off_clocks(mut s: Spi, levels: &[u8]) -> Spi
     if n == 0 {
         return s;
     }
-    let l = levels_in(levels[n - 1]);
+    let l = device::levels(levels[n - 1]);
     s.pins.sck = l.sck;
     s
 }

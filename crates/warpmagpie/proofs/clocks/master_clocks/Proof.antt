@@ -32,11 +32,11 @@ abbrev μ-loop : tie.MeasureT-loop
 loop-holds : tie.Need-loop-holds Inv-loop μ-loop
 loop-holds c = (c .before .before .pre .0, (omega arith, (c .before .before .pre .1, (refl, refl))))
 
-shared-slice-read-levels-in : tie.Need-shared-slice-read-levels-in Inv-loop μ-loop
-shared-slice-read-levels-in c = omega arith
+shared-slice-read-levels : tie.Need-shared-slice-read-levels Inv-loop μ-loop
+shared-slice-read-levels c = omega arith
 
-levels-in-requires : tie.Need-levels-in-requires Inv-loop μ-loop
-levels-in-requires c κs = search needs
+levels-requires : tie.Need-levels-requires Inv-loop μ-loop
+levels-requires c κs = search needs
 
 commanded-requires : tie.Need-commanded-requires Inv-loop μ-loop
 commanded-requires c κs = search needs
@@ -65,7 +65,7 @@ loop-again c =
     let l = at .before .before .before .args .levels .now in
     let x : Levels = levelsIn (getD l (at .loop .i) 0) in
     let t : Spi = c .before .before .before .commanded .result in
-    let lv = c .before .before .before .before .levels-in .ensures in
+    let lv = c .before .before .before .before .levels .ensures in
     let e : t ≡ clockOf (at .loop .state) x =
     c .before .before .before .commanded .ensures ∙ ap (commandedOf (at .loop .state)) lv ∙ sym (commanded-clock (at .loop .state) x (at .loop .inv .0)) in
     let o : c .before .output .result ≡ outputOf t (x .ss) = c .before .output .ensures ∙ ap (λ (y : Levels). outputOf t (y .ss)) lv in
@@ -73,7 +73,7 @@ loop-again c =
     c .sum .ensures ∙ ap (λ (n : ℕ). (getD (at .loop .outputs) (at .loop .i) 0 + n) % 256) o in
     let h : at .loop .i < length l = omega arith in
     let k : at .loop .i < length (at .loop .outputs) = omega (arith, at .loop .inv .1 .1 .0) in (
-      ap isCommanding (ap (λ (y : Spi). y .control) (c .before .before .before .commanded .ensures) ∙ commanded-control (at .loop .state) (c .before .before .before .before .levels-in .result)) ∙ at .loop .inv .0,
+      ap isCommanding (ap (λ (y : Spi). y .control) (c .before .before .before .commanded .ensures) ∙ commanded-control (at .loop .state) (c .before .before .before .before .levels .result)) ∙ at .loop .inv .0,
       (
         omega arith,
         (
@@ -105,8 +105,8 @@ master-clocks-spec =
     Inv-loop
     μ-loop
     loop-holds
-    shared-slice-read-levels-in
-    levels-in-requires
+    shared-slice-read-levels
+    levels-requires
     commanded-requires
     slice-read-sum
     output-requires

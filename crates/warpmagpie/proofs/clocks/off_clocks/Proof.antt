@@ -13,23 +13,23 @@ use Rattle.warpmagpie.proofs.clocks.off_clocks.Tie as tie
 returns : tie.Need-returns
 returns c = sym (no-clocks (c .before .before .args .s) (c .before .before .args .levels .now) (c .if1 .taken))
 
-sub-levels-in : tie.Need-sub-levels-in
-sub-levels-in c = omega arith
+sub-levels : tie.Need-sub-levels
+sub-levels c = omega arith
 
-shared-slice-read-levels-in : tie.Need-shared-slice-read-levels-in
-shared-slice-read-levels-in c = omega arith
+shared-slice-read-levels : tie.Need-shared-slice-read-levels
+shared-slice-read-levels c = omega arith
 
-levels-in-requires : tie.Need-levels-in-requires
-levels-in-requires c κs = search needs
+levels-requires : tie.Need-levels-requires
+levels-requires c κs = search needs
 
 returns-2 : tie.Need-returns-2
 returns-2 c =
     let a = c .before .before .before .before .before .args in
     let l = a .levels .now in
     let e : length l ≡ suc (length l - 1) = omega arith in
-    sym (off-ran (a .s) l (length l - 1) e (c .before .before .before .before .before .pre) ∙ ap (λ (x : Levels). withSck (a .s) (x .sck)) (sym (c .before .levels-in .ensures)))
+    sym (off-ran (a .s) l (length l - 1) e (c .before .before .before .before .before .pre) ∙ ap (λ (x : Levels). withSck (a .s) (x .sck)) (sym (c .before .levels .ensures)))
 
 pub off-clocks-spec : {M : Type 1} → statement M
 off-clocks-spec =
     tie.close
-    (tie.spec returns sub-levels-in shared-slice-read-levels-in levels-in-requires returns-2)
+    (tie.spec returns sub-levels shared-slice-read-levels levels-requires returns-2)

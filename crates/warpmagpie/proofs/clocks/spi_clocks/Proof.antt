@@ -29,11 +29,11 @@ abbrev μ-loop : tie.MeasureT-loop
 loop-holds : tie.Need-loop-holds Inv-loop μ-loop
 loop-holds c = (omega arith, (c .before .before .pre, (refl, refl)))
 
-shared-slice-read-levels-in : tie.Need-shared-slice-read-levels-in Inv-loop μ-loop
-shared-slice-read-levels-in c = omega arith
+shared-slice-read-levels : tie.Need-shared-slice-read-levels Inv-loop μ-loop
+shared-slice-read-levels c = omega arith
 
-levels-in-requires : tie.Need-levels-in-requires Inv-loop μ-loop
-levels-in-requires c κs = search needs
+levels-requires : tie.Need-levels-requires Inv-loop μ-loop
+levels-requires c κs = search needs
 
 clock-requires : tie.Need-clock-requires Inv-loop μ-loop
 clock-requires c κs = search needs
@@ -62,7 +62,7 @@ loop-again c =
     let l = at .before .before .before .args .levels .now in
     let x : Levels = levelsIn (getD l (at .loop .i) 0) in
     let t : Spi = c .before .before .before .clock .result in
-    let lv = c .before .before .before .before .levels-in .ensures in
+    let lv = c .before .before .before .before .levels .ensures in
     let e : t ≡ clockOf (at .loop .state) x = c .before .before .before .clock .ensures ∙ ap (clockOf (at .loop .state)) lv in
     let o : c .before .output .result ≡ outputOf t (x .ss) = c .before .output .ensures ∙ ap (λ (y : Levels). outputOf t (y .ss)) lv in
     let q : c .sum .result ≡ (getD (at .loop .outputs) (at .loop .i) 0 + outputOf t (x .ss)) % 256 =
@@ -98,8 +98,8 @@ spi-clocks-spec =
     Inv-loop
     μ-loop
     loop-holds
-    shared-slice-read-levels-in
-    levels-in-requires
+    shared-slice-read-levels
+    levels-requires
     clock-requires
     slice-read-sum
     output-requires
