@@ -13,7 +13,8 @@ use model::{address, level, record, spi, usart, Device};
 use std::hint::black_box;
 use std::time::Instant;
 
-/// Rounds of each row. The fastest counts, for either side: what else the machine does can only slow a round down.
+/// Rounds of each row, unless an argument says otherwise. The fastest counts, for either side: what else the machine does can only slow a
+/// round down.
 const ROUNDS: usize = 400;
 
 const RUN_LIMIT: f64 = 1.2;
@@ -99,12 +100,12 @@ fn time(best: &mut f64, clocks: usize, run: impl FnOnce()) {
 }
 
 /// ns a clock of archive and model.
-fn measure(row: &Row) -> [f64; 2] {
+fn measure(row: &Row, rounds: usize) -> [f64; 2] {
     let mut devices = vec![row.start; row.devices];
     let (mut ours, mut theirs) = (row.levels.clone(), row.levels.clone());
     let clocks = row.devices * row.levels.len();
     let mut best = [f64::MAX; 2];
-    for _ in 0..ROUNDS {
+    for _ in 0..rounds {
         devices.iter_mut().for_each(row.ready);
         let mut records: Vec<_> = devices.iter().map(record::encode).collect();
         time(&mut best[0], clocks, || {
@@ -128,11 +129,11 @@ fn measure(row: &Row) -> [f64; 2] {
 }
 
 /// ns of a run of one clock and a report, as a rig that has the processor core makes them.
-fn measure_single(start: Device, clocks: usize) -> [f64; 2] {
+fn measure_single(start: Device, clocks: usize, rounds: usize) -> [f64; 2] {
     let mut device = start;
     let mut bytes = record::encode(&start);
     let mut best = [f64::MAX; 2];
-    for _ in 0..ROUNDS {
+    for _ in 0..rounds {
         let (mut ours, mut theirs) = (0u64, 0u64);
         time(&mut best[0], clocks, || {
             for _ in 0..clocks {
@@ -161,6 +162,7 @@ fn print(name: &str, [archive, model]: [f64; 2], limit: f64) {
 }
 
 fn main() {
+    let rounds = std::env::args().nth(1).map_or(ROUNDS, |word| word.parse().expect("a number of rounds"));
     let rows = [
         Row {
             name: "idle, UBRR 51, runs of 8320",
@@ -193,8 +195,8 @@ fn main() {
     ];
     println!("{:<46}{:>9}{:>9}{:>9}{:>9}", "ns a clock", "archive", "model", "ratio", "to reach");
     for row in &rows {
-        print(row.name, measure(row), RUN_LIMIT);
+        print(row.name, measure(row, rounds), RUN_LIMIT);
     }
-    let single = measure_single(serial(SLOW), 20_000);
+    let single = measure_single(serial(SLOW), 20_000, rounds);
     print("runs of one clock, each with a report, UBRR 51", single, SINGLE_LIMIT);
 }
