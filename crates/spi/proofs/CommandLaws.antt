@@ -1,13 +1,12 @@
 -- A clock of an SPI that is off, and of a master that SS cannot make a slave.
 use Prim.Native.Nat.{ℕ, _-_}
 use mathlib.Core.Bool.{Bool, true, false, not}
-use mathlib.Core.Path.{_≡_, refl, ap}
+use mathlib.Core.Path.{_≡_, refl}
 use native.Mathlib.Omega.{arith}
 use lib.Dec.{eqb}
-use Rattle.choice.specs.Pick.{pick}
-use Rattle.choice.proofs.Picks.{pick-ind}
+use Rattle.choice.proofs.Picks.{pick-ind, both}
 use Rattle.spi.specs.Control.{isEnabled, isMaster, isInput, isCommanding}
-use Rattle.spi.specs.Clock.{withLeft, withSck, masterEdge, masterOf, commandedOf, faultOf, slaveOf, steppedOf, clockOf}
+use Rattle.spi.specs.Clock.{withLeft, withSck, masterEdge, masterOf, commandedOf, steppedOf, clockOf}
 use Rattle.spi.specs.Unit.{outputOf}
 use Rattle.spi.specs.declared.clock.Levels.{Levels}
 use Rattle.spi.specs.declared.unit.Spi.{Spi}
@@ -20,16 +19,16 @@ pub off-output : (s : Spi) (ss : Bool) → isEnabled (s .control) ≡ false → 
 unfolding outputOf
 off-output s ss off = rw off refl
 
+output : (input : Bool) → not input ≡ true → input ≡ false
+output false h = refl
+output true h = absurd (let z : _≡_ {A = ℕ} 0 1 = cc in omega arith)
+
 pub commanded-clock : (s : Spi) (l : Levels) → isCommanding (s .control) ≡ true → clockOf s l ≡ commandedOf s l
 unfolding steppedOf isCommanding
-commanded-clock s l h = ap (λ (t : Spi). withSck t (l .sck)) (by (isEnabled (s .control)) (isMaster (s .control)) (isInput (s .control)) h)
-  where
-    by : (e m i : Bool) → pick e (pick m (not i) false) false ≡ true
-        → pick e (pick m (pick i (pick (l .ss) (masterOf s (l .miso)) (faultOf s)) (masterOf s (l .miso))) (slaveOf s l)) s ≡ masterOf s (l .miso)
-    by true true false h = refl
-    by true true true h = absurd (let z : _≡_ {A = ℕ} 0 1 = cc in omega arith)
-    by true false i h = absurd (let z : _≡_ {A = ℕ} 0 1 = cc in omega arith)
-    by false m i h = absurd (let z : _≡_ {A = ℕ} 0 1 = cc in omega arith)
+commanded-clock s l h =
+    let on = both (isEnabled (s .control)) _ h in
+    let master = both (isMaster (s .control)) _ (on .1) in
+    rw (on .0, master .0, output (isInput (s .control)) (master .1)) refl
 
 pub commanded-control : (s : Spi) (l : Levels) → commandedOf s l .control ≡ s .control
 unfolding masterOf
