@@ -40,6 +40,11 @@ pub pick-split : {A : Type 0} (P : Bool → A → Type 0) (t : Bool) (a b : A) �
 pick-split P true a b f g = f refl
 pick-split P false a b f g = g refl
 
+-- the test itself
+pub pick-self : (t : Bool) → pick t true false ≡ t
+pick-self true = refl
+pick-self false = refl
+
 -- a case of a test's two values, with the value at hand
 pub split : {P : Type 0} (b : Bool) → (b ≡ true → P) → (b ≡ false → P) → P
 split true f g = f refl

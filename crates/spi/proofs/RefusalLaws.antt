@@ -5,6 +5,7 @@ use mathlib.Core.Path.{_≡_, refl, sym, ap, _∙_}
 use native.Mathlib.Omega.{arith}
 use lib.Dec.{eqb}
 use borrow.Author.Tests.{eq-eqb, ne-eqb, eqb-true, eqb-false}
+use Rattle.choice.proofs.Picks.{pick-self}
 use Rattle.choice.specs.Pick.{pick, digit}
 use Rattle.spi.specs.Transfer.{isUnderWay as isTransferring, droppedOf}
 use Rattle.spi.specs.Unit.{differs, isRequested}
@@ -45,11 +46,7 @@ differs-by x true h = by (eqb x 1)
     by : (t : Bool) → pick t false true ≡ not t
     by true = refl
     by false = refl
-differs-by x false h = by (eqb x 1) ∙ not-one x (eqb x 1) refl h
-  where
-    by : (t : Bool) → pick t true false ≡ t
-    by true = refl
-    by false = refl
+differs-by x false h = pick-self (eqb x 1) ∙ not-one x (eqb x 1) refl h
 
 spsr-by : (s new : Spi) (changed during : Bool) → numberIn (pick changed (pick during (Refused UnderWay) (Done new)) (Done s)) ≡ pick (during && changed) 4 0
 spsr-by s new true true = refl

@@ -115,10 +115,6 @@ spi-end s ls os i e f =
     let all : take i os ≡ os = rw (f, take-length) in
     (rw none refl, rw (none′, all, append-nil))
 
-pub pick-self : (b : Bool) → pick b true false ≡ b
-pick-self true = refl
-pick-self false = refl
-
 pub none-left : (ls : List ℕ) (i : ℕ) → i ≡ length ls → drop i ls ≡ []
 none-left ls i h = rw (h, drop-length)
 

@@ -5,8 +5,9 @@ use Prim.Native.Nat.{ℕ, _≤_, _<_, _-_}
 use native.Mathlib.Omega.{arith}
 use lib.ListN.{length, drop}
 use Rattle.choice.specs.Pick.{pick}
+use Rattle.choice.proofs.Picks.{pick-self}
 use Rattle.device.specs.Run.{areLevels}
-use Rattle.warpmagpie.proofs.Runs.{level-on, none-left, pick-self}
+use Rattle.warpmagpie.proofs.Runs.{level-on, none-left}
 use Rattle.warpmagpie.proofs.run.are_levels.Statement.{statement}
 use Rattle.warpmagpie.proofs.run.are_levels.Tie as tie
 use Rattle.warpmagpie.proofs.run.are_levels.Reads as reads
