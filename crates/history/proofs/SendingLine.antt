@@ -1,24 +1,24 @@
 -- The sender's line, for every list of calls on a record: what its statement says of calls, said of the serial unit's events, and the theorem.
-use Prim.Native.Nat.{ℕ, _+_, _*_}
+use Prim.Native.Nat.{ℕ, suc, _+_, _*_}
 use mathlib.Core.Bool.{Bool, true, false}
 use mathlib.Core.List.{List, [], _∷_, _++_, map, append-nil}
-use mathlib.Core.Path.{_≡_, refl, sym, ap, subst, _∙_}
+use mathlib.Core.Path.{_≡_, refl, sym, ap, ap₂, subst, _∙_}
 use lib.Dec.{eqb}
 use lib.ListN.{length}
 use Rattle.choice.specs.Pick.{pick, digit}
 use Rattle.choice.proofs.Digits.{digit-is}
 use Rattle.choice.proofs.Picks.{pick-ind}
-use Rattle.frame.specs.Format.{samples}
+use Rattle.frame.specs.Format.{wordBits}
 use Rattle.frame.specs.Word.{dataOf}
 use Rattle.usart.specs.Event.{Event, isUdr0}
-use Rattle.usart.specs.Line.{lineLevel, StartBefore}
+use Rattle.usart.specs.Line.{lineLevel, Fits, Spaced}
 use Rattle.usart.specs.Read.{ucsr0a}
 use Rattle.usart.specs.Receiving.{bitAt}
 use Rattle.usart.specs.Sender.{isVacant}
-use Rattle.usart.specs.Sending.{waiting, Drives, dataIn, outputsOf as outputsAt, acceptedOf as acceptedAt, Sends as SendsAt}
+use Rattle.usart.specs.Sending.{waiting, Taken, takenAt, framesOf, notBefore, Drives, dataIn, bitClocks, outputsOf as outputsAt, takenOf as takenIn, Sends as SendsAt}
 use Rattle.usart.specs.Unit.{clockOf}
 use Rattle.usart.specs.declared.unit.Usart.{Usart}
-use Rattle.usart.proofs.AppendLaws.{outputs-append, accepted-append}
+use Rattle.usart.proofs.AppendLaws.{outputs-append, taken-append}
 use Rattle.usart.proofs.ReadLaws.{status, txb8-bit}
 use Rattle.usart.proofs.SendingLine.{sends as sends-at}
 use Rattle.device.specs.Address.{placeOf}
@@ -40,45 +40,40 @@ use Rattle.record.specs.declared.codec.Decoded.the-variants.{Accepted}
 use Rattle.record.proofs.Round.{decode-valid}
 use Rattle.warpmagpie.specs.Calls.{shown, runOn, outputsOn}
 use Rattle.history.specs.Call.{Call, reset, write, read, vector, run, report, Passable, deviceIn, usartOf, OnlyData}
-use Rattle.history.specs.Sending.{MaySend, acceptedBy, acceptedOf, txdBy, txdOf, Sends}
-use Rattle.history.proofs.StepLaws.{induct}
-use Rattle.history.proofs.ViewLaws.{runs, eventsOf, viewOf, along, final-view}
+use Rattle.history.specs.Sending.{MaySend, acceptedBy, takenOf, txdBy, txdOf, Sends}
+use Rattle.history.proofs.StepLaws.{nextDevice, induct}
+use Rattle.history.proofs.ViewLaws.{runs, eventsOf, viewOf, next-usart, along, final-view}
 use Rattle.history.proofs.ReceivingView.{ucsr0a-is, ucsr0b-is, only-view}
 
 -- what a write of UDR0 gives the buffer
 abbrev given : Usart → ℕ → List ℕ
 given u v = pick (isVacant (u .sender .buffer)) (dataOf (u .format) (digit (u .control .txb8) * 256 + v) ∷ []) []
 
-given-in : (u : Usart) (p : Place) (v : ℕ) → pick (isData p) (given u v) [] ≡ acceptedAt u (writesAt p v)
-given-in u (Serial r) v = sym (append-nil (pick (isUdr0 r) (given u v) []))
-given-in u (Spi r) v = refl
-given-in u Nowhere v = refl
+given-in : (j : ℕ) (u : Usart) (p : Place) (v : ℕ) → map (takenAt j) (pick (isData p) (given u v) []) ≡ takenIn j u (writesAt p v)
+given-in j u (Serial r) v = sym (append-nil (map (takenAt j) (pick (isUdr0 r) (given u v) [])))
+given-in j u (Spi r) v = refl
+given-in j u Nowhere v = refl
 
-clocks-give : (u : Usart) (ls : List ℕ) → [] ≡ acceptedAt u (clocksOf ls)
-clocks-give u [] = refl
-clocks-give u (l ∷ ls) = clocks-give (clockOf u (rxdIn l)) ls
+clocks-give : (j : ℕ) (u : Usart) (ls : List ℕ) → [] ≡ takenIn j u (clocksOf ls)
+clocks-give j u [] = refl
+clocks-give j u (l ∷ ls) = clocks-give (suc j) (clockOf u (rxdIn l)) ls
 
-write-gives : (s : List ℕ) (d : Device) → decodeOf s ≡ Accepted d → (a v : ℕ) → acceptedBy s (write a v) ≡ acceptedAt (d .usart) (writesAt (placeOf a) v)
-write-gives s d h a v =
+write-gives : (j : ℕ) (s : List ℕ) (d : Device) → decodeOf s ≡ Accepted d → (a v : ℕ)
+    → map (takenAt j) (acceptedBy s (write a v)) ≡ takenIn j (d .usart) (writesAt (placeOf a) v)
+write-gives j s d h a v =
     let u = d .usart in
     let e : usartOf s ≡ u = ap (λ (x : Decoded). deviceIn x .usart) h in
     let udre : eqb (bitAt (ucsr0a u) 5) 1 ≡ isVacant (u .sender .buffer) = ap (λ (x : ℕ). eqb x 1) (status u .bit5) ∙ digit-is (isVacant (u .sender .buffer)) in
-    rw (ucsr0a-is s d h, ucsr0b-is s d h, udre, txb8-bit u, e, ← data-address a) (given-in u (placeOf a) v)
+    rw (ucsr0a-is s d h, ucsr0b-is s d h, udre, txb8-bit u, e, ← data-address a) (given-in j u (placeOf a) v)
 
-accepted-by : (s : List ℕ) (d : Device) → decodeOf s ≡ Accepted d → (c : Call) → acceptedBy s c ≡ acceptedAt (d .usart) (eventsOf d c)
-accepted-by s d h reset = refl
-accepted-by s d h (write a v) = write-gives s d h a v
-accepted-by s d h (read a) = reads-are (λ (es : List Event). [] ≡ acceptedAt (d .usart) es) refl (λ r. refl) (placeOf a)
-accepted-by s d h (vector n) = vectors-are (λ (es : List Event). [] ≡ acceptedAt (d .usart) es) refl refl n
-accepted-by s d h (run ls os) =
-    pick-ind (λ (es : List Event). [] ≡ acceptedAt (d .usart) es) (runs d ls os) _ _ (λ _. clocks-give (d .usart) ls) (λ _. refl)
-accepted-by s d h report = refl
-
-accepted-view : (s : List ℕ) (d : Device) (cs : List Call) → decodeOf s ≡ Accepted d → Passable cs → OnlyData s cs → acceptedOf s cs ≡ acceptedAt (d .usart) (viewOf d cs)
-accepted-view =
-    induct (λ (s : List ℕ) (d : Device) (cs : List Call). OnlyData s cs → acceptedOf s cs ≡ acceptedAt (d .usart) (viewOf d cs))
-    (λ s d h o. refl)
-    (λ s d c cs h k o. along acceptedAt accepted-append s d c cs (o .0) (accepted-by s d h c) (k (o .1)))
+taken-by : (j : ℕ) (s : List ℕ) (d : Device) → decodeOf s ≡ Accepted d → (c : Call) → map (takenAt j) (acceptedBy s c) ≡ takenIn j (d .usart) (eventsOf d c)
+taken-by j s d h reset = refl
+taken-by j s d h (write a v) = write-gives j s d h a v
+taken-by j s d h (read a) = reads-are (λ (es : List Event). [] ≡ takenIn j (d .usart) es) refl (λ r. refl) (placeOf a)
+taken-by j s d h (vector n) = vectors-are (λ (es : List Event). [] ≡ takenIn j (d .usart) es) refl refl n
+taken-by j s d h (run ls os) =
+    pick-ind (λ (es : List Event). [] ≡ takenIn j (d .usart) es) (runs d ls os) _ _ (λ _. clocks-give j (d .usart) ls) (λ _. refl)
+taken-by j s d h report = refl
 
 -- only a run shows outputs
 shown-in : (d : Device) (a b : Bool) (ls os : List ℕ) (w : Written) → w ≡ pick a (pick b (Done (ranOf d ls)) (Refused Level)) (Refused Length)
@@ -107,6 +102,18 @@ txd-view =
     (λ s d h o. refl)
     (λ s d c cs h k o. along outputsAt outputs-append s d c cs (o .0) (txd-by s d h c) (k (o .1)))
 
+taken-view : (s : List ℕ) (d : Device) (cs : List Call) → decodeOf s ≡ Accepted d → Passable cs → OnlyData s cs
+    → (j : ℕ) → takenOf j s cs ≡ takenIn j (d .usart) (viewOf d cs)
+taken-view =
+    induct (λ (s : List ℕ) (d : Device) (cs : List Call). OnlyData s cs → (j : ℕ) → takenOf j s cs ≡ takenIn j (d .usart) (viewOf d cs))
+    (λ s d h o j. refl)
+    (λ s d c cs h k o j.
+    let rest = viewOf (nextDevice d c) cs in
+    ap₂ (_++_) (taken-by j s d h c)
+    (k (o .1) (j + length (txdBy s c))
+    ∙ ap₂ (λ (n : ℕ) (u : Usart). takenIn n u rest) (ap (λ (os : List ℕ). j + length os) (txd-by s d h c)) (next-usart s d c (o .0)))
+    ∙ sym (taken-append j (d .usart) (eventsOf d c) rest))
+
 pub sends : (d : Device) (s : List ℕ) (cs : List Call) → MaySend d s cs → Sends d s cs
 sends d s cs m =
     let u = d .usart in
@@ -120,14 +127,15 @@ sends d s cs m =
       buffer = decode-valid s d v .usart .sender .buffer;
       onlyData = only-view s d cs v p o;
     }) in
+    let et : takenIn 0 u es ≡ takenOf 0 s cs = sym (taken-view s d cs v p o 0) in
+    let eo : outputsAt u es ≡ txdOf s cs = sym (txd-view s d cs v p o) in
     record {
-      begun = r .begun;
-      fits = r .fits;
-      spaced = r .spaced;
-      begins = subst (λ (os : List ℕ). StartBefore (length os) (r .begun)) (sym (txd-view s d cs v p o)) (r .begins);
+      fits = subst (λ (ts : List Taken). Fits (u .format) (framesOf u ts)) et (r .fits);
+      spaced = subst (λ (ts : List Taken). Spaced (wordBits (u .format)) (bitClocks u) 1 (framesOf u ts)) et (r .spaced);
       drives =
-          subst (Drives (lineLevel (u .format) (samples (u .format) * (u .baud .ubrr + 1)) 1 (r .begun)) 0) (sym (txd-view s d cs v p o)) (r .drives);
-      exactly =
-          ap (λ (x : Usart). map dataIn (r .begun) ++ waiting (x .sender .buffer)) (final-view s d cs v p o)
-          ∙ r .exactly ∙ ap (λ (xs : List ℕ). waiting (u .sender .buffer) ++ xs) (sym (accepted-view s d cs v p o));
+          subst (λ (ts : List Taken). Drives (lineLevel (u .format) (bitClocks u) 1 (framesOf u ts)) 0 (txdOf s cs)) et
+          (subst (Drives (lineLevel (u .format) (bitClocks u) 1 (framesOf u (takenIn 0 u es))) 0) eo (r .drives));
+      remains =
+          ap₂ (λ (os : List ℕ) (ts : List Taken). map dataIn (notBefore (length os) (framesOf u ts))) (sym eo) (sym et)
+          ∙ r .remains ∙ ap (λ (x : Usart). waiting (x .sender .buffer)) (sym (final-view s d cs v p o));
     }

@@ -6,11 +6,11 @@ use mathlib.Core.Path.{_≡_}
 use lib.Dec.{eqb}
 use lib.ListN.{length}
 use Rattle.choice.specs.Pick.{pick}
-use Rattle.frame.specs.Format.{samples, wordBits}
+use Rattle.frame.specs.Format.{wordBits}
 use Rattle.frame.specs.Word.{dataOf}
-use Rattle.usart.specs.Line.{Sent, lineLevel, Fits, Spaced, StartBefore}
+use Rattle.usart.specs.Line.{lineLevel, Fits, Spaced}
 use Rattle.usart.specs.Receiving.{bitAt}
-use Rattle.usart.specs.Sending.{waiting, Drives, dataIn}
+use Rattle.usart.specs.Sending.{waiting, Taken, takenAt, framesOf, notBefore, Drives, dataIn, bitClocks}
 use Rattle.usart.specs.declared.sender.Shifter.the-variants.{Resting}
 use Rattle.device.specs.Output.{txdBits}
 use Rattle.device.specs.declared.unit.Device.{Device}
@@ -39,10 +39,6 @@ acceptedBy s (vector n) = []
 acceptedBy s (run ls os) = []
 acceptedBy s report = []
 
-abbrev pub acceptedOf : List ℕ → List Call → List ℕ
-acceptedOf s [] = []
-acceptedOf s (c ∷ cs) = acceptedBy s c ++ acceptedOf (recordAfter s c) cs
-
 -- TxD and its driven mark in the outputs of the done runs, one after another
 abbrev pub txdBy : List ℕ → Call → List ℕ
 txdBy s reset = []
@@ -56,12 +52,16 @@ abbrev pub txdOf : List ℕ → List Call → List ℕ
 txdOf s [] = []
 txdOf s (c ∷ cs) = txdBy s c ++ txdOf (recordAfter s c) cs
 
--- TxD is a line with Q = 1 and P = S·(UBRR + 1), of exactly the frames that the buffer held at first or took, in order, each begun within the
--- list; its end may cut the last one begun or leave one in the buffer
+-- the data that the buffer takes, in order, the first clock of the list being j: what is written before a run is found by its first clock
+abbrev pub takenOf : ℕ → List ℕ → List Call → List Taken
+takenOf j s [] = []
+takenOf j s (c ∷ cs) = map (takenAt j) (acceptedBy s c) ++ takenOf (j + length (txdBy s c)) (recordAfter s c) cs
+
+-- TxD is a line with Q = 1 and P = S·(UBRR + 1), of exactly the frames that the buffer held at first or took, in order, each begun at the first
+-- tick that finds it in the buffer and the shifter empty (`framesOf`). The list's end may cut the last one begun, or leave in the buffer one whose
+-- tick has not come, and no other
 pub record Sends (d : Device) (s : List ℕ) (cs : List Call) : Type 0 where
-  pub begun : List Sent
-  pub fits : Fits (d .usart .format) begun
-  pub spaced : Spaced (wordBits (d .usart .format)) (samples (d .usart .format) * (d .usart .baud .ubrr + 1)) 1 begun
-  pub begins : StartBefore (length (txdOf s cs)) begun
-  pub drives : Drives (lineLevel (d .usart .format) (samples (d .usart .format) * (d .usart .baud .ubrr + 1)) 1 begun) 0 (txdOf s cs)
-  pub exactly : map dataIn begun ++ waiting (usartOf (finalRecord s cs) .sender .buffer) ≡ waiting (d .usart .sender .buffer) ++ acceptedOf s cs
+  pub fits : Fits (d .usart .format) (framesOf (d .usart) (takenOf 0 s cs))
+  pub spaced : Spaced (wordBits (d .usart .format)) (bitClocks (d .usart)) 1 (framesOf (d .usart) (takenOf 0 s cs))
+  pub drives : Drives (lineLevel (d .usart .format) (bitClocks (d .usart)) 1 (framesOf (d .usart) (takenOf 0 s cs))) 0 (txdOf s cs)
+  pub remains : map dataIn (notBefore (length (txdOf s cs)) (framesOf (d .usart) (takenOf 0 s cs))) ≡ waiting (usartOf (finalRecord s cs) .sender .buffer)

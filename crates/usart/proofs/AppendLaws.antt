@@ -7,7 +7,7 @@ use lib.ListN.{length}
 use Rattle.usart.specs.Unit.{clockOf, outputOf}
 use Rattle.usart.specs.Event.{Event, clock, write, read, vector, nextOf, finalOf, OnlyData, levelsOf}
 use Rattle.usart.specs.Receiving.{Free, readsOf, entriesOf}
-use Rattle.usart.specs.Sending.{acceptedOf, outputsOf}
+use Rattle.usart.specs.Sending.{takenOf, outputsOf}
 use Rattle.usart.specs.declared.unit.Usart.{Usart}
 
 pub final-append : (u : Usart) (es fs : List Event) → finalOf u (es ++ fs) ≡ finalOf (finalOf u es) fs
@@ -39,10 +39,6 @@ pub reads-append : (u : Usart) (es fs : List Event) → readsOf u (es ++ fs) ≡
 reads-append u [] fs = refl
 reads-append u (e ∷ es) fs = rw (reads-append (nextOf u e) es fs, append-assoc)
 
-pub accepted-append : (u : Usart) (es fs : List Event) → acceptedOf u (es ++ fs) ≡ acceptedOf u es ++ acceptedOf (finalOf u es) fs
-accepted-append u [] fs = refl
-accepted-append u (e ∷ es) fs = rw (accepted-append (nextOf u e) es fs, append-assoc)
-
 pub outputs-append : (u : Usart) (es fs : List Event) → outputsOf u (es ++ fs) ≡ outputsOf u es ++ outputsOf (finalOf u es) fs
 outputs-append u [] fs = refl
 outputs-append u (clock rxd ∷ es) fs = ap (_∷_ (outputOf (clockOf u rxd))) (outputs-append (clockOf u rxd) es fs)
@@ -60,3 +56,13 @@ entries-append j u (clock rxd ∷ es) fs =
 entries-append j u (write r v ∷ es) fs = entries-append j (nextOf u (write r v)) es fs
 entries-append j u (read r ∷ es) fs = entries-append j (nextOf u (read r)) es fs
 entries-append j u (vector ∷ es) fs = entries-append j (nextOf u vector) es fs
+
+pub taken-append : (j : ℕ) (u : Usart) (es fs : List Event)
+    → takenOf j u (es ++ fs) ≡ takenOf j u es ++ takenOf (j + length (outputsOf u es)) (finalOf u es) fs
+taken-append j u [] fs = ap (λ (n : ℕ). takenOf n u fs) (omega arith)
+taken-append j u (clock rxd ∷ es) fs =
+    let e : j + suc (length (outputsOf (clockOf u rxd) es)) ≡ suc j + length (outputsOf (clockOf u rxd) es) = omega arith in
+    rw (taken-append (suc j) (clockOf u rxd) es fs, e)
+taken-append j u (write r v ∷ es) fs = rw (taken-append j (nextOf u (write r v)) es fs, append-assoc)
+taken-append j u (read r ∷ es) fs = taken-append j (nextOf u (read r)) es fs
+taken-append j u (vector ∷ es) fs = taken-append j (nextOf u vector) es fs

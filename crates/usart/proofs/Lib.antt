@@ -6,6 +6,7 @@ pub mod ReadLaws
 pub mod EventLaws
 pub mod ClockLaws
 pub mod ReceivingLine
+pub mod TickLaws
 pub mod SendingLine
 pub mod ValidLaws
 pub mod ClosedLists

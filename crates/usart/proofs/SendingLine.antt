@@ -1,7 +1,7 @@
 -- The sender makes a line of demand 3: the induction over the events.
 use mathlib.Core.Path.{_≡_, refl, _∙_, sym, ap, subst}
 use mathlib.Core.Bool.{Bool, true, false}
-use mathlib.Core.List.{List, [], _∷_, _++_, map, append-assoc, append-nil}
+use mathlib.Core.List.{List, [], _∷_, _++_, map, map-append, append-assoc, append-nil}
 use Prim.Native.Nat.{ℕ, zero, suc, _+_, _-_, _*_, _/_, _≤_, _<_}
 use native.Mathlib.Nat.{mul-le-mul-right, div-eq-of-lt-le, mul-pos, mod-lt}
 use native.Mathlib.Decide.{decLt}
@@ -9,7 +9,7 @@ use native.Mathlib.Omega.{arith}
 use lib.Dec.{ltb}
 use lib.ListN.{length}
 use lib.Pow.{pow-pos}
-use borrow.Author.Tests.{ltb-true, ltb-false}
+use borrow.Author.Tests.{ltb-true, ltb-false, le-leb, lt-leb}
 use Rattle.choice.specs.Pick.{pick, digit}
 use Rattle.choice.proofs.Picks.{pick-ind}
 use Rattle.frame.specs.Format.{samples, dataBits, wordBits, lastBit}
@@ -21,9 +21,9 @@ use Rattle.usart.specs.Sender.{isVacant, bufferOf, begun, movedFrom, ste
 use Rattle.usart.specs.Unit.{clockOf, isDriven, outputOf, txcRequested}
 use Rattle.usart.specs.Write.{transmittedOf, writeOf, vectorOf}
 use Rattle.usart.specs.Event.{Event, clock, write, read, vector, settled, nextOf, finalOf, isRefused, isUdr0, OnlyData}
-use Rattle.usart.specs.Line.{Sent, lineLevel, Fits, StartBefore}
+use Rattle.usart.specs.Line.{Sent, lineLevel, Fits}
 use Rattle.usart.specs.Valid.{ValidBuffer}
-use Rattle.usart.specs.Sending.{MaySend, waiting, acceptedBy, acceptedOf, outputsOf, Drives, dataIn, Sends}
+use Rattle.usart.specs.Sending.{MaySend, waiting, acceptedBy, Taken, takenAt, takenOf, tickFrom, laterOf, framesFrom, framesOf, notBefore, outputsOf, Drives, dataIn, Sends, bitClocks}
 use Rattle.usart.specs.declared.sender.Buffer.{Buffer}
 use Rattle.usart.specs.declared.sender.Buffer.the-variants.{Vacant, Full}
 use Rattle.usart.specs.declared.sender.Transmission.{Transmission}
@@ -36,6 +36,7 @@ use Rattle.usart.specs.declared.write.Register.the-variants.{Ucsr0a, Ucs
 use Rattle.usart.proofs.LineLaws.{From, later, from-spaced, over, within, quiet}
 use Rattle.usart.proofs.EventLaws.{refused-settled}
 use Rattle.usart.proofs.ClockLaws.{clock-tick, clock-wait}
+use Rattle.usart.proofs.TickLaws.{Phase, tick-next, tick-from, phase-first, phase-tick, phase-wait}
 
 -- an enabled sender drives its level
 output-driven : (u : Usart) → u .control .txen ≡ true → outputOf u ≡ digit (txdOf (u .format) (u .sender .shifter)) + 16
@@ -47,7 +48,39 @@ drives-same w w′ j [] h o = o
 drives-same w w′ j (x ∷ os) h o =
     (o .0 ∙ ap (λ (b : Bool). digit b + 16) (h j (omega arith)), drives-same w w′ (suc j) os (λ i t. h i (omega arith)) (o .1))
 
-module _ (f : Format) (ubrr : ℕ) where
+-- what is in the buffer before clock j, and what it takes later
+abbrev ahead : ℕ → Buffer → List Taken → List Taken
+ahead j b ts = map (takenAt j) (waiting b) ++ ts
+
+-- the first of them is there from clock j on, or later
+abbrev FirstFrom : ℕ → List Taken → Type 0
+FirstFrom j [] = Unit {0}
+FirstFrom j (t ∷ ts) = j ≤ t .from
+
+first-ahead : (j : ℕ) (xs : List ℕ) (ts : List Taken) → FirstFrom j ts → FirstFrom j (map (takenAt j) xs ++ ts)
+first-ahead j [] ts h = h
+first-ahead j (x ∷ xs) ts h = omega arith
+
+first-sooner : (i j : ℕ) (ts : List Taken) → i ≤ j → FirstFrom j ts → FirstFrom i ts
+first-sooner i j [] h k = tt
+first-sooner i j (t ∷ ts) h k = omega (arith, k)
+
+first-taken : (j : ℕ) (u : Usart) (es : List Event) → FirstFrom j (takenOf j u es)
+first-taken j u [] = tt
+first-taken j u (clock l ∷ es) = first-sooner j (suc j) (takenOf (suc j) (clockOf u l) es) (omega arith) (first-taken (suc j) (clockOf u l) es)
+first-taken j u (write r v ∷ es) =
+    first-ahead j (acceptedBy u (write r v)) (takenOf j (nextOf u (write r v)) es) (first-taken j (nextOf u (write r v)) es)
+first-taken j u (read r ∷ es) = first-taken j (nextOf u (read r)) es
+first-taken j u (vector ∷ es) = first-taken j (nextOf u vector) es
+
+-- the unit as it is at first
+module _ (first : Usart) where
+  abbrev f : Format
+  f = first .format
+
+  abbrev ubrr : ℕ
+  ubrr = first .baud .ubrr
+
   abbrev D : ℕ
   D = wordBits f
 
@@ -95,27 +128,43 @@ module _ (f : Format) (ubrr : ℕ) where
     sending : (t : Transmission) (s : Sent) → u .sender .shifter ≡ Sending t → t .word ≡ wordOf f (s .«data»)
         → InBit j (u .baud .left .0) (t .bit) (t .sample .0) (s .start) → Place u j (s ∷ []) (s .start + N * P)
 
-  -- what the events es make, from clock j on: frames begun at lo or later, and with those on the line now all that TxD shows
-  record Makes (cur : List Sent) (lo j : ℕ) (u : Usart) (es : List Event) : Type 0 where
-    frames : List Sent
-    fits : Fits f frames
-    from : From D P 1 lo frames
-    begins : StartBefore (j + length (outputsOf u es)) frames
-    drives : Drives (Line (cur ++ frames)) j (outputsOf u es)
-    exactly : map dataIn frames ++ waiting (finalOf u es .sender .buffer) ≡ waiting (u .sender .buffer) ++ acceptedOf u es
+  -- the frames of ts, the first of which may begin from lo on
+  abbrev Frames : ℕ → List Taken → List Sent
+  Frames lo ts = framesFrom first lo ts
 
-  -- the same of a clock that leads to v, where w waited before it
-  record Clocks (cur : List Sent) (lo j : ℕ) (w : List ℕ) (v : Usart) (es : List Event) : Type 0 where
-    frames : List Sent
-    fits : Fits f frames
-    from : From D P 1 lo frames
-    begins : StartBefore (suc j + length (outputsOf v es)) frames
-    now : outputOf v ≡ digit (Line (cur ++ frames) j) + 16
-    drives : Drives (Line (cur ++ frames)) (suc j) (outputsOf v es)
-    exactly : map dataIn frames ++ waiting (finalOf v es .sender .buffer) ≡ w ++ acceptedOf v es
+  -- the events es, the first clock of which is j, make the frames fs: with the one on the line now they are all that TxD shows
+  record Makes (cur fs : List Sent) (j : ℕ) (u : Usart) (es : List Event) : Type 0 where
+    fits : Fits f fs
+    drives : Drives (Line (cur ++ fs)) j (outputsOf u es)
+    remains : map dataIn (notBefore (j + length (outputsOf u es)) fs) ≡ waiting (finalOf u es .sender .buffer)
 
+  -- the same of clock j, that leads to v, and of the events after it
+  abbrev Clocks : List Sent → List Sent → ℕ → Usart → List Event → Type 0
+  Clocks cur fs j v es = (outputOf v ≡ digit (Line (cur ++ fs) j) + 16) × Makes cur fs (suc j) v es
+
+  -- whatever is in the buffer before clock j counts as taken then
   abbrev Claim : List Event → Type 0
-  Claim es = (cur : List Sent) (lo j : ℕ) (u : Usart) → Stays u → Place u j cur lo → ValidBuffer f (u .sender .buffer) → OnlyData u es → Makes cur lo j u es
+  Claim es = (cur : List Sent) (lo j : ℕ) (u : Usart) → Stays u → Phase (first .baud) j (u .baud .left .0) → Place u j cur lo → ValidBuffer f (u .sender .buffer) → OnlyData u es
+      → Makes cur (Frames lo (ahead j (u .sender .buffer) (takenOf j u es))) j u es
+
+  from-frames : (lo : ℕ) (ts : List Taken) → From D P 1 lo (Frames lo ts)
+  from-frames lo [] = tt
+  from-frames lo (t ∷ ts) =
+      let n : ℕ = tickFrom (first .baud) (laterOf lo (t .from)) in
+      let m : (D + 2) * P ≤ N * P = mul-le-mul-right P n2 in
+      (omega (arith, tick-from (first .baud) (laterOf lo (t .from))), later D P 1 (n * 1 + (D + 2) * P) (n + N * P) (Frames (n + N * P) ts) (omega arith) (from-frames (n + N * P) ts))
+
+  -- the frame before has ended when the first is taken
+  ended : (lo j : ℕ) (ts : List Taken) → lo ≤ j → FirstFrom j ts → Frames j ts ≡ Frames lo ts
+  ended lo j [] h k = refl
+  ended lo j (t ∷ ts) h k =
+      let e : laterOf j (t .from) ≡ laterOf lo (t .from) = omega (arith, k) in
+      ap (λ (i : ℕ). let n : ℕ = tickFrom (first .baud) i in record { start = n; «data» = t .«data» } ∷ Frames (n + N * P) ts) e
+
+  -- it begins at the same tick if clock j begins no frame
+  waits : (lo j : ℕ) (x : Buffer) (ts : List Taken) → tickFrom (first .baud) (laterOf lo (suc j)) ≡ tickFrom (first .baud) (laterOf lo j) → Frames lo (ahead (suc j) x ts) ≡ Frames lo (ahead j x ts)
+  waits lo j Vacant ts e = refl
+  waits lo j (Full d) ts e = ap (λ (n : ℕ). record { start = n; «data» = d } ∷ Frames (n + N * P) ts) e
 
   -- within bit b of the frame s nothing else is seen
   only : (s : Sent) (fs : List Sent) (b j : ℕ) → From D P 1 (s .start + N * P) fs → b < N → s .start + b * P ≤ j → j < s .start + (b + 1) * P
@@ -137,118 +186,118 @@ module _ (f : Format) (ubrr : ℕ) where
       ]
 
   -- after a clock the shifter rests
-  rests : (es : List Event) → Claim es → (lo j : ℕ) (v : Usart) → Stays v → v .sender .shifter ≡ Resting → lo ≤ j → ValidBuffer f (v .sender .buffer)
-      → OnlyData v es → Clocks [] lo j (waiting (v .sender .buffer)) v es
-  rests es ih lo j v st sh h vb on =
-      let r = ih [] (suc j) (suc j) v st (resting sh (omega arith)) vb on in
-      let high : txdOf (v .format) (v .sender .shifter) ≡ Line (r .frames) j =
-      ap (txdOf (v .format)) sh ∙ sym (quiet f P 1 (suc j) (r .frames) j (r .from) (omega arith)) in
-      record {
-        frames = r .frames;
-        fits = r .fits;
-        from = later D P 1 lo (suc j) (r .frames) (omega arith) (r .from);
-        begins = r .begins;
-        now = output-driven v (st .txen) ∙ ap (λ (b : Bool). digit b + 16) high;
-        drives = r .drives;
-        exactly = r .exactly;
-      }
+  rests : (es : List Event) → Claim es → (lo j : ℕ) (v : Usart) → Stays v → Phase (first .baud) (suc j) (v .baud .left .0) → v .sender .shifter ≡ Resting → lo ≤ j
+      → ValidBuffer f (v .sender .buffer) → OnlyData v es → Clocks [] (Frames lo (ahead (suc j) (v .sender .buffer) (takenOf (suc j) v es))) j v es
+  rests es ih lo j v st ph sh h vb on =
+      let ts : List Taken = ahead (suc j) (v .sender .buffer) (takenOf (suc j) v es) in
+      let high : txdOf (v .format) (v .sender .shifter) ≡ Line (Frames (suc j) ts) j =
+      ap (txdOf (v .format)) sh ∙ sym (quiet f P 1 (suc j) (Frames (suc j) ts) j (from-frames (suc j) ts) (omega arith)) in
+      subst (λ (fs : List Sent). Clocks [] fs j v es)
+      (ended lo (suc j) ts (omega arith) (first-ahead (suc j) (waiting (v .sender .buffer)) (takenOf (suc j) v es) (first-taken (suc j) v es)))
+      (output-driven v (st .txen) ∙ ap (λ (x : Bool). digit x + 16) high, ih [] (suc j) (suc j) v st ph (resting sh (omega arith)) vb on)
 
   -- after a clock the frame s is on the line, in the bit of t
-  sends-on : (es : List Event) → Claim es → (s : Sent) (t : Transmission) (j : ℕ) (v : Usart) → Stays v → v .sender .shifter ≡ Sending t
-      → t .word ≡ wordOf f (s .«data») → InBit (suc j) (v .baud .left .0) (t .bit) (t .sample .0) (s .start) → s .start + t .bit * P ≤ j
-      → j < s .start + (t .bit + 1) * P → ValidBuffer f (v .sender .buffer) → OnlyData v es
-      → Clocks (s ∷ []) (s .start + N * P) j (waiting (v .sender .buffer)) v es
-  sends-on es ih s t j v st sh ew i lo hi vb on =
-      let r = ih (s ∷ []) (s .start + N * P) (suc j) v st (sending t s sh ew i) vb on in
-      let level : txdOf (v .format) (v .sender .shifter) ≡ Line (s ∷ r .frames) j =
+  sends-on : (es : List Event) → Claim es → (s : Sent) (t : Transmission) (j : ℕ) (v : Usart) → Stays v → Phase (first .baud) (suc j) (v .baud .left .0)
+      → v .sender .shifter ≡ Sending t → t .word ≡ wordOf f (s .«data») → InBit (suc j) (v .baud .left .0) (t .bit) (t .sample .0) (s .start)
+      → s .start + t .bit * P ≤ j → j < s .start + (t .bit + 1) * P → ValidBuffer f (v .sender .buffer) → OnlyData v es
+      → Clocks (s ∷ []) (Frames (s .start + N * P) (ahead (suc j) (v .sender .buffer) (takenOf (suc j) v es))) j v es
+  sends-on es ih s t j v st ph sh ew i lo hi vb on =
+      let ts : List Taken = ahead (suc j) (v .sender .buffer) (takenOf (suc j) v es) in
+      let fs : List Sent = Frames (s .start + N * P) ts in
+      let level : txdOf (v .format) (v .sender .shifter) ≡ Line (s ∷ fs) j =
       ap (txdOf (v .format)) sh ∙ ap (λ (x : Format). frameBit (wordBits x) (t .word) (t .bit)) (st .format)
-      ∙ ap (λ (x : ℕ). frameBit D x (t .bit)) ew ∙ only s (r .frames) (t .bit) j (r .from) (i .bit) lo hi in
-      record {
-        frames = r .frames;
-        fits = r .fits;
-        from = r .from;
-        begins = r .begins;
-        now = output-driven v (st .txen) ∙ ap (λ (b : Bool). digit b + 16) level;
-        drives = r .drives;
-        exactly = r .exactly;
-      }
+      ∙ ap (λ (x : ℕ). frameBit D x (t .bit)) ew ∙ only s fs (t .bit) j (from-frames (s .start + N * P) ts) (i .bit) lo hi in
+      (output-driven v (st .txen) ∙ ap (λ (x : Bool). digit x + 16) level, ih (s ∷ []) (s .start + N * P) (suc j) v st ph (sending t s sh ew i) vb on)
 
-  -- at the tick j the shifter takes what the buffer b holds
-  loads : (es : List Event) → Claim es → (lo j : ℕ) (b : Buffer) (kept txc : Bool) (v : Usart) → Stays v → v .baud .left .0 ≡ ubrr
-      → v .sender ≡ movedFrom f b kept txc → lo ≤ j → ValidBuffer f b → OnlyData v es → Clocks [] lo j (waiting b) v es
-  loads es ih lo j Vacant kept txc v st left eq h vb on =
-      let sh : v .sender .shifter ≡ Resting = ap (λ (x : Sender). x .shifter) eq in
-      let bu : v .sender .buffer ≡ Vacant = ap (λ (x : Sender). x .buffer) eq in
-      subst (λ (x : Buffer). Clocks [] lo j (waiting x) v es) bu (rests es ih lo j v st sh h (rw bu tt) on)
-  loads es ih lo j (Full d) kept txc v st left eq h vb on =
+  -- the same, where the buffer is as it was before the clock, and the frame s has not ended at the clock
+  sends-still : (es : List Event) → Claim es → (s : Sent) (t : Transmission) (j : ℕ) (x : Buffer) (v : Usart) → Stays v → Phase (first .baud) (suc j) (v .baud .left .0)
+      → v .sender .shifter ≡ Sending t → v .sender .buffer ≡ x → t .word ≡ wordOf f (s .«data») → InBit (suc j) (v .baud .left .0) (t .bit) (t .sample .0) (s .start)
+      → s .start + t .bit * P ≤ j → j < s .start + (t .bit + 1) * P → ValidBuffer f x → OnlyData v es
+      → Clocks (s ∷ []) (Frames (s .start + N * P) (ahead j x (takenOf (suc j) v es))) j v es
+  sends-still es ih s t j x v st ph sh bu ew i lo hi vb on =
+      let n : ℕ = s .start + N * P in
+      let m : (t .bit + 1) * P ≤ N * P = mul-le-mul-right P (omega (arith, i .bit)) in
+      let e : laterOf n (suc j) ≡ laterOf n j = omega arith in
+      subst (λ (fs : List Sent). Clocks (s ∷ []) fs j v es)
+      (ap (λ (y : Buffer). Frames n (ahead (suc j) y (takenOf (suc j) v es))) bu ∙ waits n j x (takenOf (suc j) v es) (ap (tickFrom (first .baud)) e))
+      (sends-on es ih s t j v st ph sh ew i lo hi (rw bu vb) on)
+
+  -- at the tick j the shifter takes what the buffer x holds
+  loads : (es : List Event) → Claim es → (lo j : ℕ) (x : Buffer) (kept txc : Bool) (v : Usart) → Stays v → Phase (first .baud) j 0 → v .baud .left .0 ≡ ubrr
+      → v .sender ≡ movedFrom f x kept txc → lo ≤ j → ValidBuffer f x → OnlyData v es → Clocks [] (Frames lo (ahead j x (takenOf (suc j) v es))) j v es
+  loads es ih lo j Vacant kept txc v st ph left eq h vb on =
+      let sh : v .sender .shifter ≡ Resting = ap (λ (y : Sender). y .shifter) eq in
+      let bu : v .sender .buffer ≡ Vacant = ap (λ (y : Sender). y .buffer) eq in
+      subst (λ (y : Buffer). Clocks [] (Frames lo (ahead (suc j) y (takenOf (suc j) v es))) j v es) bu
+      (rests es ih lo j v st (rw left (phase-tick (first .baud) j ph)) sh h (rw bu tt) on)
+  loads es ih lo j (Full d) kept txc v st ph left eq h vb on =
+      let ts : List Taken = takenOf (suc j) v es in
       let s : Sent = record { start = j; «data» = d } in
-      let sh : v .sender .shifter ≡ Sending (begun f d) = ap (λ (x : Sender). x .shifter) eq in
-      let bu : v .sender .buffer ≡ Vacant = ap (λ (x : Sender). x .buffer) eq in
+      let sh : v .sender .shifter ≡ Sending (begun f d) = ap (λ (y : Sender). y .shifter) eq in
+      let bu : v .sender .buffer ≡ Vacant = ap (λ (y : Sender). y .buffer) eq in
       let i : InBit (suc j) (v .baud .left .0) 0 0 j = record { next = omega arith; counter = omega arith; tick = omega (arith, s1); bit = omega arith } in
-      let r = sends-on es ih s (begun f d) j v st sh refl i (omega arith) (omega (arith, p1)) (rw bu tt) on in
-      let m : (D + 2) * P ≤ N * P = mul-le-mul-right P n2 in
-      record {
-        frames = s ∷ r .frames;
-        fits = (vb, r .fits);
-        from = (omega arith, later D P 1 (j * 1 + (D + 2) * P) (j + N * P) (r .frames) (omega arith) (r .from));
-        begins = (omega arith, r .begins);
-        now = r .now;
-        drives = r .drives;
-        exactly = ap (λ (x : List ℕ). d ∷ x) (r .exactly ∙ ap (λ (x : Buffer). waiting x ++ acceptedOf v es) bu);
-      }
+      let r : Clocks (s ∷ []) (Frames (j + N * P) ts) j v es =
+      subst (λ (y : Buffer). Clocks (s ∷ []) (Frames (j + N * P) (ahead (suc j) y ts)) j v es) bu
+      (sends-on es ih s (begun f d) j v st (rw left (phase-tick (first .baud) j ph)) sh refl i (omega arith) (omega (arith, p1)) (rw bu tt) on) in
+      let now : tickFrom (first .baud) (laterOf lo j) ≡ j = let q : tickFrom (first .baud) (laterOf lo j) ≡ j + 0 = tick-next (first .baud) j 0 (laterOf lo j) ph (omega arith) (omega arith) in omega arith in
+      subst (λ (n : ℕ). Clocks [] (record { start = n; «data» = d } ∷ Frames (n + N * P) ts) j v es) (sym now) (
+        r .0,
+        record {
+          fits = (vb, r .1 .fits);
+          drives = r .1 .drives;
+          remains =
+              ap (λ (y : Bool). map dataIn (pick y (s ∷ notBefore (suc j + length (outputsOf v es)) (Frames (j + N * P) ts)) (notBefore (suc j + length (outputsOf v es)) (Frames (j + N * P) ts))))
+              (lt-leb (suc j + length (outputsOf v es)) j (omega arith))
+              ∙ r .1 .remains;
+        },
+      )
 
   -- a tick with the frame s on the line
-  shifts : (es : List Event) → Claim es → (s : Sent) (t : Transmission) (j : ℕ) (u v : Usart) → Stays v → v .baud .left .0 ≡ ubrr
+  shifts : (es : List Event) → Claim es → (s : Sent) (t : Transmission) (j : ℕ) (u v : Usart) → Stays v → Phase (first .baud) j 0 → v .baud .left .0 ≡ ubrr
       → t .word ≡ wordOf f (s .«data») → InBit j 0 (t .bit) (t .sample .0) (s .start) → ValidBuffer f (u .sender .buffer) → OnlyData v es
-      → v .sender ≡ steppedOf f (u .sender) t → Clocks (s ∷ []) (s .start + N * P) j (waiting (u .sender .buffer)) v es
+      → v .sender ≡ steppedOf f (u .sender) t → Clocks (s ∷ []) (Frames (s .start + N * P) (ahead j (u .sender .buffer) (takenOf (suc j) v es))) j v es
   unfolding steppedOf
-  shifts es ih s t j u v st left ew i vb on =
+  shifts es ih s t j u v st ph left ew i vb on =
       let n : ℕ = s .start in
-      let w : List ℕ = waiting (u .sender .buffer) in
-      pick-ind (λ (x : Sender). v .sender ≡ x → Clocks (s ∷ []) (n + N * P) j w v es) (ltb (t .sample .0) (S - 1)) _ _
+      let fs : List Sent = Frames (n + N * P) (ahead j (u .sender .buffer) (takenOf (suc j) v es)) in
+      pick-ind (λ (x : Sender). v .sender ≡ x → Clocks (s ∷ []) fs j v es) (ltb (t .sample .0) (S - 1)) _ _
       (λ q eq.
       let ht : t .sample .0 + 1 < S = omega (arith, ltb-true (t .sample .0) (S - 1) q) in
       let m : (t .sample .0 + 2) * M ≤ S * M = mul-le-mul-right M (omega arith) in
-      let bu : v .sender .buffer ≡ u .sender .buffer = ap (λ (x : Sender). x .buffer) eq in
-      subst (λ (x : Buffer). Clocks (s ∷ []) (n + N * P) j (waiting x) v es) bu
-      (sends-on es ih s (placed t (t .bit) (t .sample .0 + 1)) j v st (ap (λ (x : Sender). x .shifter) eq) ew
-      (record { next = omega (arith, i .next); counter = omega arith; tick = ht; bit = i .bit }) (omega (arith, i .next)) (omega (arith, i .next))
-      (rw bu vb) on))
+      sends-still es ih s (placed t (t .bit) (t .sample .0 + 1)) j (u .sender .buffer) v st (rw left (phase-tick (first .baud) j ph)) (ap (λ (x : Sender). x .shifter) eq)
+      (ap (λ (x : Sender). x .buffer) eq) ew (record { next = omega (arith, i .next); counter = omega arith; tick = ht; bit = i .bit })
+      (omega (arith, i .next)) (omega (arith, i .next)) vb on)
       (λ q.
       let et : t .sample .0 + 1 ≡ S = omega (arith, ltb-false (t .sample .0) (S - 1) q, i .tick) in
       let m : (t .sample .0 + 1) * M ≡ S * M = ap (λ (x : ℕ). x * M) et in
-      pick-ind (λ (x : Sender). v .sender ≡ x → Clocks (s ∷ []) (n + N * P) j w v es) (ltb (t .bit) (lastBit f)) _ _
+      pick-ind (λ (x : Sender). v .sender ≡ x → Clocks (s ∷ []) fs j v es) (ltb (t .bit) (lastBit f)) _ _
       (λ g eq.
       let hb : t .bit + 1 < N = omega (arith, ltb-true (t .bit) (lastBit f) g) in
-      let bu : v .sender .buffer ≡ u .sender .buffer = ap (λ (x : Sender). x .buffer) eq in
-      subst (λ (x : Buffer). Clocks (s ∷ []) (n + N * P) j (waiting x) v es) bu
-      (sends-on es ih s (placed t (t .bit + 1) 0) j v st (ap (λ (x : Sender). x .shifter) eq) ew
-      (record { next = omega (arith, i .next); counter = omega arith; tick = omega (arith, s1); bit = hb }) (omega (arith, i .next)) (omega (arith, i .next, p1))
-      (rw bu vb) on))
+      sends-still es ih s (placed t (t .bit + 1) 0) j (u .sender .buffer) v st (rw left (phase-tick (first .baud) j ph)) (ap (λ (x : Sender). x .shifter) eq)
+      (ap (λ (x : Sender). x .buffer) eq) ew (record { next = omega (arith, i .next); counter = omega arith; tick = omega (arith, s1); bit = hb })
+      (omega (arith, i .next)) (omega (arith, i .next, p1)) vb on)
       (λ g eq.
       let hb : N * P ≤ (t .bit + 1) * P = mul-le-mul-right P (omega (arith, ltb-false (t .bit) (lastBit f) g)) in
       let at : n + N * P ≤ j = omega (arith, i .next) in
       let m2 : (D + 2) * P ≤ N * P = mul-le-mul-right P n2 in
-      let r = loads es ih (n + N * P) j (u .sender .buffer) (u .sender .txc) true v st left eq at vb on in
-      let gone : (x : ℕ) → j ≤ x → Line (r .frames) x ≡ Line (s ∷ r .frames) x = λ x h. sym (over f P 1 s (r .frames) x (omega arith) (omega arith)) in
-      record {
-        frames = r .frames;
-        fits = r .fits;
-        from = r .from;
-        begins = r .begins;
-        now = r .now ∙ ap (λ (b : Bool). digit b + 16) (gone j (omega arith));
-        drives = drives-same (Line (r .frames)) (Line (s ∷ r .frames)) (suc j) (outputsOf v es) (λ x h. gone x (omega arith)) (r .drives);
-        exactly = r .exactly;
-      }))
+      let r = loads es ih (n + N * P) j (u .sender .buffer) (u .sender .txc) true v st ph left eq at vb on in
+      let gone : (x : ℕ) → j ≤ x → Line fs x ≡ Line (s ∷ fs) x = λ x h. sym (over f P 1 s fs x (omega arith) (omega arith)) in (
+        r .0 ∙ ap (λ (x : Bool). digit x + 16) (gone j (omega arith)),
+        record {
+          fits = r .1 .fits;
+          drives = drives-same (Line fs) (Line (s ∷ fs)) (suc j) (outputsOf v es) (λ x h. gone x (omega arith)) (r .1 .drives);
+          remains = r .1 .remains;
+        },
+      )))
 
   stays-as : (u v : Usart) → v .format ≡ u .format → v .baud .ubrr ≡ u .baud .ubrr → v .control ≡ u .control → Stays u → Stays v
   stays-as u v ef eu ec st = record { format = ef ∙ st .format; rate = eu ∙ st .rate; txen = ap (λ c. c .txen) ec ∙ st .txen }
 
   -- a clock, by the baud counter before it
-  clocked : (es : List Event) → Claim es → (cur : List Sent) (lo j : ℕ) (u : Usart) (l : Bool) → Stays u → Place u j cur lo
-      → ValidBuffer f (u .sender .buffer) → OnlyData (clockOf u l) es → (k : ℕ) → u .baud .left .0 ≡ k
-      → Clocks cur lo j (waiting (u .sender .buffer)) (clockOf u l) es
-  clocked es ih cur lo j u l st pl vb on zero left =
+  clocked : (es : List Event) → Claim es → (cur : List Sent) (lo j : ℕ) (u : Usart) (l : Bool) → Stays u → (k : ℕ) → u .baud .left .0 ≡ k → Phase (first .baud) j k → Place u j cur lo
+      → ValidBuffer f (u .sender .buffer) → OnlyData (clockOf u l) es
+      → Clocks cur (Frames lo (ahead j (u .sender .buffer) (takenOf (suc j) (clockOf u l) es))) j (clockOf u l) es
+  clocked es ih cur lo j u l st zero left ph pl vb on =
       let v : Usart = clockOf u l in
       let eq = clock-tick u l left in
       let sv : Stays v = stays-as u v (ap (λ (x : Usart). x .format) eq) (ap (λ (x : Usart). x .baud .ubrr) eq) (ap (λ (x : Usart). x .control) eq) st in
@@ -258,28 +307,33 @@ module _ (f : Format) (ubrr : ℕ) where
       by cur lo pl sv lv snd
     where
       by : (cur : List Sent) (lo : ℕ) → Place u j cur lo → Stays (clockOf u l) → clockOf u l .baud .left .0 ≡ ubrr
-          → clockOf u l .sender ≡ shiftedOn f (u .sender) (u .sender .shifter) → Clocks cur lo j (waiting (u .sender .buffer)) (clockOf u l) es
+          → clockOf u l .sender ≡ shiftedOn f (u .sender) (u .sender .shifter)
+          → Clocks cur (Frames lo (ahead j (u .sender .buffer) (takenOf (suc j) (clockOf u l) es))) j (clockOf u l) es
       by cur lo (resting sh h) sv lv snd =
-          loads es ih lo j (u .sender .buffer) (u .sender .txc) (u .sender .txc) (clockOf u l) sv lv (snd ∙ ap (shiftedOn f (u .sender)) sh) h vb on
+          loads es ih lo j (u .sender .buffer) (u .sender .txc) (u .sender .txc) (clockOf u l) sv ph lv (snd ∙ ap (shiftedOn f (u .sender)) sh) h vb on
       by cur lo (sending t s sh ew i) sv lv snd =
-          shifts es ih s t j u (clockOf u l) sv lv ew (rw left at i) vb on (snd ∙ ap (shiftedOn f (u .sender)) sh)
-  clocked es ih cur lo j u l st pl vb on (suc k) left =
+          shifts es ih s t j u (clockOf u l) sv ph lv ew (rw left at i) vb on (snd ∙ ap (shiftedOn f (u .sender)) sh)
+  clocked es ih cur lo j u l st (suc k) left ph pl vb on =
       let v : Usart = clockOf u l in
       let eq = clock-wait u l k left in
       let sv : Stays v = stays-as u v (ap (λ (x : Usart). x .format) eq) (ap (λ (x : Usart). x .baud .ubrr) eq) (ap (λ (x : Usart). x .control) eq) st in
       by cur lo pl sv (ap (λ (x : Usart). x .baud .left .0) eq) (ap (λ (x : Usart). x .sender) eq)
     where
       by : (cur : List Sent) (lo : ℕ) → Place u j cur lo → Stays (clockOf u l) → clockOf u l .baud .left .0 ≡ k → clockOf u l .sender ≡ u .sender
-          → Clocks cur lo j (waiting (u .sender .buffer)) (clockOf u l) es
+          → Clocks cur (Frames lo (ahead j (u .sender .buffer) (takenOf (suc j) (clockOf u l) es))) j (clockOf u l) es
       by cur lo (resting sh h) sv lv snd =
-          subst (λ (x : Sender). Clocks [] lo j (waiting (x .buffer)) (clockOf u l) es) snd
-          (rests es ih lo j (clockOf u l) sv (ap (λ (x : Sender). x .shifter) snd ∙ sh) h (rw snd vb) on)
+          let ts : List Taken = takenOf (suc j) (clockOf u l) es in
+          let same-tick : tickFrom (first .baud) (laterOf lo (suc j)) ≡ tickFrom (first .baud) (laterOf lo j) =
+          tick-next (first .baud) j (suc k) (laterOf lo (suc j)) ph (omega arith) (omega arith) ∙ sym (tick-next (first .baud) j (suc k) (laterOf lo j) ph (omega arith) (omega arith)) in
+          subst (λ (fs : List Sent). Clocks [] fs j (clockOf u l) es)
+          (ap (λ (x : Sender). Frames lo (ahead (suc j) (x .buffer) ts)) snd ∙ waits lo j (u .sender .buffer) ts same-tick)
+          (rests es ih lo j (clockOf u l) sv (rw lv (phase-wait (first .baud) j k ph)) (ap (λ (x : Sender). x .shifter) snd ∙ sh) h (rw snd vb) on)
       by cur lo (sending t s sh ew i) sv lv snd =
           let m : (t .sample .0 + 1) * M ≤ S * M = mul-le-mul-right M (omega (arith, i .tick)) in
-          subst (λ (x : Sender). Clocks (s ∷ []) (s .start + N * P) j (waiting (x .buffer)) (clockOf u l) es) snd
-          (sends-on es ih s t j (clockOf u l) sv (ap (λ (x : Sender). x .shifter) snd ∙ sh) ew
+          sends-still es ih s t j (u .sender .buffer) (clockOf u l) sv (rw lv (phase-wait (first .baud) j k ph)) (ap (λ (x : Sender). x .shifter) snd ∙ sh)
+          (ap (λ (x : Sender). x .buffer) snd) ew
           (record { next = rw lv (omega (arith, i .next)); counter = rw lv (omega (arith, i .counter)); tick = i .tick; bit = i .bit })
-          (omega (arith, i .next, i .counter)) (omega (arith, i .next)) (rw snd vb) on)
+          (omega (arith, i .next, i .counter)) (omega (arith, i .next)) vb on
 
   -- an event that passes no clock: the buffer may have taken w
   record Aside (u v : Usart) (w : List ℕ) : Type 0 where
@@ -350,66 +404,60 @@ module _ (f : Format) (ubrr : ℕ) where
   place-as u v j cur lo w a (resting sh h) = resting (a .shifter ∙ sh) h
   place-as u v j cur lo w a (sending t s sh ew i) = sending t s (a .shifter ∙ sh) ew (rw (a .baud) i)
 
-  -- what is made from v on, with what u had in its buffer and w
-  record From-aside (cur : List Sent) (lo j : ℕ) (u v : Usart) (w : List ℕ) (es : List Event) : Type 0 where
-    frames : List Sent
-    fits : Fits f frames
-    from : From D P 1 lo frames
-    begins : StartBefore (j + length (outputsOf v es)) frames
-    drives : Drives (Line (cur ++ frames)) j (outputsOf v es)
-    exactly : map dataIn frames ++ waiting (finalOf v es .sender .buffer) ≡ waiting (u .sender .buffer) ++ (w ++ acceptedOf v es)
+  aside : (es : List Event) → Claim es → (cur : List Sent) (lo j : ℕ) (u v : Usart) (w : List ℕ) → Stays u → Phase (first .baud) j (u .baud .left .0) → Place u j cur lo → Aside u v w
+      → OnlyData v es → Makes cur (Frames lo (ahead j (u .sender .buffer) (map (takenAt j) w ++ takenOf j v es))) j v es
+  aside es ih cur lo j u v w st ph pl a on =
+      let sv : Stays v = stays-as u v (a .format) (ap (λ x. x .ubrr) (a .baud)) (a .control) st in
+      let e : ahead j (v .sender .buffer) (takenOf j v es) ≡ ahead j (u .sender .buffer) (map (takenAt j) w ++ takenOf j v es) =
+      ap (λ (xs : List ℕ). map (takenAt j) xs ++ takenOf j v es) (a .buffer)
+      ∙ ap (λ (xs : List Taken). xs ++ takenOf j v es) (map-append (takenAt j) (waiting (u .sender .buffer)) w)
+      ∙ append-assoc (map (takenAt j) (waiting (u .sender .buffer))) (map (takenAt j) w) (takenOf j v es) in
+      subst (λ (ts : List Taken). Makes cur (Frames lo ts) j v es) e (ih cur lo j v sv (rw (a .baud) ph) (place-as u v j cur lo w a pl) (a .valid) on)
 
-  aside : (es : List Event) → Claim es → (cur : List Sent) (lo j : ℕ) (u v : Usart) (w : List ℕ) → Stays u → Place u j cur lo → Aside u v w → OnlyData v es
-      → From-aside cur lo j u v w es
-  aside es ih cur lo j u v w st pl a on =
-      let sv : Stays v = stays-as u v (a .format) (ap (λ b. b .ubrr) (a .baud)) (a .control) st in
-      let r = ih cur lo j v sv (place-as u v j cur lo w a pl) (a .valid) on in
+  -- the list's end: what is in the buffer has not begun
+  ends : (cur : List Sent) (lo j : ℕ) (u : Usart) (x : Buffer) → u .sender .buffer ≡ x → ValidBuffer f x → Makes cur (Frames lo (ahead j x [])) j u []
+  ends cur lo j u Vacant e vb = record { fits = tt; drives = tt; remains = sym (ap waiting e) }
+  ends cur lo j u (Full d) e vb =
+      let s : Sent = record { start = tickFrom (first .baud) (laterOf lo j); «data» = d } in
       record {
-        frames = r .frames;
-        fits = r .fits;
-        from = r .from;
-        begins = r .begins;
-        drives = r .drives;
-        exactly =
-            r .exactly ∙ ap (λ (x : List ℕ). x ++ acceptedOf v es) (a .buffer)
-            ∙ append-assoc (waiting (u .sender .buffer)) w (acceptedOf v es);
+        fits = (vb, tt);
+        drives = tt;
+        remains =
+            ap (λ (y : Bool). map dataIn (pick y (s ∷ []) [])) (le-leb (j + 0) (s .start) (omega (arith, tick-from (first .baud) (laterOf lo j)))) ∙ sym (ap waiting e);
       }
 
   claim : (es : List Event) → Claim es
-  claim [] = λ cur lo j u st pl vb on. record { frames = []; fits = tt; from = tt; begins = tt; drives = tt; exactly = sym (append-nil (waiting (u .sender .buffer))) }
-  claim (clock l ∷ es) = λ cur lo j u st pl vb on.
-      let r = clocked es (claim es) cur lo j u l st pl vb on (u .baud .left .0) refl in
+  claim [] = λ cur lo j u st ph pl vb on. ends cur lo j u (u .sender .buffer) refl vb
+  claim (clock l ∷ es) = λ cur lo j u st ph pl vb on.
+      let r = clocked es (claim es) cur lo j u l st (u .baud .left .0) refl ph pl vb on in
       let n : ℕ = length (outputsOf (clockOf u l) es) in
       let e : suc j + n ≡ j + suc n = omega arith in
+      let fs : List Sent = Frames lo (ahead j (u .sender .buffer) (takenOf (suc j) (clockOf u l) es)) in
       record {
-        frames = r .frames;
-        fits = r .fits;
-        from = r .from;
-        begins = subst (λ (J : ℕ). StartBefore J (r .frames)) e (r .begins);
-        drives = (r .now, r .drives);
-        exactly = r .exactly;
+        fits = r .1 .fits;
+        drives = (r .0, r .1 .drives);
+        remains = ap (λ (J : ℕ). map dataIn (notBefore J fs)) (sym e) ∙ r .1 .remains;
       }
-  claim (write x v ∷ es) = λ cur lo j u st pl vb on.
-      let r = aside es (claim es) cur lo j u (nextOf u (write x v)) (acceptedBy u (write x v)) st pl (written u x v st vb (on .0)) (on .1) in
-      record { frames = r .frames; fits = r .fits; from = r .from; begins = r .begins; drives = r .drives; exactly = r .exactly }
-  claim (read x ∷ es) = λ cur lo j u st pl vb on.
-      let r = aside es (claim es) cur lo j u (nextOf u (read x)) [] st pl (looked u x vb) on in
-      record { frames = r .frames; fits = r .fits; from = r .from; begins = r .begins; drives = r .drives; exactly = r .exactly }
-  claim (vector ∷ es) = λ cur lo j u st pl vb on.
-      let r = aside es (claim es) cur lo j u (nextOf u vector) [] st pl (acknowledged u vb) on in
-      record { frames = r .frames; fits = r .fits; from = r .from; begins = r .begins; drives = r .drives; exactly = r .exactly }
+  claim (write x v ∷ es) = λ cur lo j u st ph pl vb on.
+      let r = aside es (claim es) cur lo j u (nextOf u (write x v)) (acceptedBy u (write x v)) st ph pl (written u x v st vb (on .0)) (on .1) in
+      record { fits = r .fits; drives = r .drives; remains = r .remains }
+  claim (read x ∷ es) = λ cur lo j u st ph pl vb on.
+      let r = aside es (claim es) cur lo j u (nextOf u (read x)) [] st ph pl (looked u x vb) on in
+      record { fits = r .fits; drives = r .drives; remains = r .remains }
+  claim (vector ∷ es) = λ cur lo j u st ph pl vb on.
+      let r = aside es (claim es) cur lo j u (nextOf u vector) [] st ph pl (acknowledged u vb) on in
+      record { fits = r .fits; drives = r .drives; remains = r .remains }
 
--- TxD is a line of demand 3, of exactly the frames that the buffer held or took
+-- TxD is a line of demand 3, of exactly the frames that the buffer held or took, each begun at its tick
 pub sends : (u : Usart) (es : List Event) → MaySend u es → Sends u es
 sends u es h =
     let f : Format = u .format in
-    let r = claim f (u .baud .ubrr) es [] 0 0 u (record { format = refl; rate = refl; txen = h .enabled }) (resting (h .resting) (omega arith)) (h .buffer) (h .onlyData) in
+    let ts : List Taken = ahead 0 (u .sender .buffer) (takenOf 0 u es) in
+    let r = claim u es [] 0 0 u (record { format = refl; rate = refl; txen = h .enabled }) (phase-first (u .baud)) (resting (h .resting) (omega arith)) (h .buffer) (h .onlyData) in
     let e : 0 + length (outputsOf u es) ≡ length (outputsOf u es) = omega arith in
     record {
-      begun = r .frames;
       fits = r .fits;
-      spaced = from-spaced (wordBits f) (samples f * (u .baud .ubrr + 1)) 1 (p1 f (u .baud .ubrr)) 0 (r .frames) (r .from);
-      begins = subst (λ (J : ℕ). StartBefore J (r .frames)) e (r .begins);
+      spaced = from-spaced (wordBits f) (bitClocks u) 1 (p1 u) 0 (framesOf u (takenOf 0 u es)) (from-frames u 0 ts);
       drives = r .drives;
-      exactly = r .exactly;
+      remains = ap (λ (J : ℕ). map dataIn (notBefore J (framesOf u (takenOf 0 u es)))) (sym e) ∙ r .remains;
     }

@@ -38,11 +38,6 @@ abbrev pub Spaced : ℕ → ℕ → ℕ → List Sent → Type 0
 Spaced D P Q [] = Unit {0}
 Spaced D P Q (s ∷ ss) = Follows D P Q s ss × Spaced D P Q ss
 
--- each frame starts before clock J
-abbrev pub StartBefore : ℕ → List Sent → Type 0
-StartBefore J [] = Unit {0}
-StartBefore J (s ∷ ss) = (s .start < J) × StartBefore J ss
-
 -- the first J clocks run at least until the last frame's first stop bit has ended
 abbrev pub EndedBy : ℕ → ℕ → ℕ → ℕ → List Sent → Type 0
 EndedBy D P Q J [] = Unit {0}
