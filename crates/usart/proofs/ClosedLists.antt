@@ -1,17 +1,18 @@
--- What a closed list shows, and the free places in it, found by computing: tests, and what they say.
+-- What a closed list shows, what it drives, and the free places in it, found by computing: tests, and what they say.
 use mathlib.Core.Path.{_≡_, refl, sym}
 use mathlib.Core.Bool.{Bool, true, false}
 use mathlib.Core.List.{List, [], _∷_}
-use Prim.Native.Nat.{ℕ, suc, _<_}
-use lib.Dec.{ltb}
+use Prim.Native.Nat.{ℕ, suc, _+_, _<_}
+use lib.Dec.{eqb, ltb}
 use lib.ListN.{length}
-use borrow.Author.Tests.{ltb-true}
-use Rattle.choice.specs.Pick.{pick}
+use borrow.Author.Tests.{eqb-true, ltb-true}
+use Rattle.choice.specs.Pick.{pick, digit}
 use Rattle.choice.proofs.Picks.{both}
 use Rattle.usart.specs.Unit.{clockOf}
 use Rattle.usart.specs.Event.{Event, clock, write, read, vector, nextOf}
 use Rattle.usart.specs.Line.{Shows}
 use Rattle.usart.specs.Receiving.{heldBy, isComplete, outcomeAt, Free}
+use Rattle.usart.specs.Sending.{Drives}
 use Rattle.usart.specs.declared.unit.Usart.{Usart}
 
 unfoldable pub bool-eqb : Bool → Bool → Bool
@@ -34,6 +35,16 @@ unfolding shown
 shown-shows w j [] e = tt
 shown-shows w j (l ∷ ls) e =
     let b = both (bool-eqb l (w j)) (shown w (suc j) ls) e in (bool-eq l (w j) (b .0), shown-shows w (suc j) ls (b .1))
+
+unfoldable pub driven : (ℕ → Bool) → ℕ → List ℕ → Bool
+driven w j [] = true
+driven w j (o ∷ os) = pick (eqb o (digit (w j) + 16)) (driven w (suc j) os) false
+
+pub driven-drives : (w : ℕ → Bool) (j : ℕ) (os : List ℕ) → driven w j os ≡ true → Drives w j os
+unfolding driven
+driven-drives w j [] e = tt
+driven-drives w j (o ∷ os) e =
+    let b = both (eqb o (digit (w j) + 16)) (driven w (suc j) os) e in (eqb-true o (digit (w j) + 16) (b .0), driven-drives w (suc j) os (b .1))
 
 unfoldable pub room : Usart → Bool → Bool
 room u l = pick (isComplete (outcomeAt u l)) (ltb (length (heldBy u)) 2) true

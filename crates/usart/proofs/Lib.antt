@@ -1,3 +1,7 @@
+pub mod ClosedLists
+pub mod Examples
+pub mod Cases
+pub mod Witness
 pub mod Rates
 pub mod LineLaws
 pub mod Noise
@@ -9,8 +13,6 @@ pub mod ReceivingLine
 pub mod TickLaws
 pub mod SendingLine
 pub mod ValidLaws
-pub mod ClosedLists
-pub mod Witness
 pub mod OutputLaws
 pub mod AppendLaws
 pub mod RefusalLaws

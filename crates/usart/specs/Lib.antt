@@ -12,5 +12,6 @@ pub mod Event
 pub mod Line
 pub mod Receiving
 pub mod Sending
+pub mod Marked
 pub mod Refusing
 pub mod Counting

@@ -21,10 +21,13 @@ isEmpty (Two a b) = false
 abbrev pub markedOf : Frame → Bool → Frame
 markedOf f d = record { «data» = f .«data»; fe = f .fe; upe = f .upe; dor = d }
 
+abbrev pub holding : Places → Queue
+holding p = record { places = p; lost = false }
+
 -- a frame that completes with both places full is lost, and the next frame stored carries DOR
 abbrev pub storedIn : Places → Bool → Frame → Queue
-storedIn Empty lost f = record { places = One (markedOf f lost); lost = false }
-storedIn (One a) lost f = record { places = Two a (markedOf f lost); lost = false }
+storedIn Empty lost f = holding (One (markedOf f lost))
+storedIn (One a) lost f = holding (Two a (markedOf f lost))
 storedIn (Two a b) lost f = record { places = Two a b; lost = true }
 
 abbrev pub storedOf : Queue → Frame → Queue

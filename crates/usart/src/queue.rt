@@ -1,5 +1,5 @@
 ghost use mathlib.Core.Path.{_≡_};
-ghost use Rattle.usart.specs.Queue.{markedOf, storedOf, takenOf, oldestOf, isEmpty};
+ghost use Rattle.usart.specs.Queue.{markedOf, holding, storedOf, takenOf, oldestOf, isEmpty};
 
 // A received frame.
 pub struct Frame {
@@ -32,6 +32,16 @@ impl Frame {
 }
 
 impl Queue {
+    // Frames held, and no loss pending.
+    fn holding(p: Places) -> Queue
+        ensures { λ r. ⌜ r ≡ holding p ⌝ }
+    {
+        Queue {
+            places: p,
+            lost: false,
+        }
+    }
+
     pub fn empty(self) -> bool
         ensures { λ r. ⌜ r ≡ isEmpty (self .places) ⌝ }
     {
@@ -49,14 +59,8 @@ impl Queue {
         let p = self.places;
         let g = f.marked(self.lost);
         match p {
-            Places::Empty => Queue {
-                places: Places::One(g),
-                lost: false,
-            },
-            Places::One(a) => Queue {
-                places: Places::Two(a, g),
-                lost: false,
-            },
+            Places::Empty => Queue::holding(Places::One(g)),
+            Places::One(a) => Queue::holding(Places::Two(a, g)),
             Places::Two(a, b) => Queue {
                 places: Places::Two(a, b),
                 lost: true,

@@ -1,0 +1,39 @@
+-- What the statements say of closed lists, by computing alone and before any law is used: M8, demand 3 of two frames of which the first is
+-- read before the second completes, and the sender's line of two bytes. A wrong program that changes a definition is refused here first, by
+-- the value that it gets wrong.
+use Prim.Native.Nat.{ℕ}
+use mathlib.Core.Path.{refl}
+use lib.Dec.{lit≤, lit<}
+use Rattle.frame.specs.Parity.{sumOfBits}
+use Rattle.frame.specs.Word.{frameBit, parityError}
+use Rattle.usart.specs.Baud.{leftOf}
+use Rattle.usart.specs.Sender.{steppedOf}
+use Rattle.usart.specs.Sampler.{idleOf, castOf, nextBitOf, shiftedOf, decidedOf, votedOf, sampledOf, samplerOf}
+use Rattle.usart.specs.Receiver.{listenedOf, enabledOf}
+use Rattle.usart.specs.Unit.{isBusy, clockOf, isDriven, outputOf}
+use Rattle.usart.specs.Settings.{sizeOf, parityOf}
+use Rattle.usart.specs.Write.{formattedOf, writeC, isReservedC, sizedC, timedOf, transmittedOf, vectorOf}
+use Rattle.usart.specs.Line.{lineLevel}
+use Rattle.usart.specs.Receiving.{Delivered}
+use Rattle.usart.specs.Sending.{tickFrom, bitClocks, framesOf, takenOf, outputsOf, Sends}
+use Rattle.usart.specs.Marked.{sending, statusBits, zeros, M8}
+use Rattle.usart.proofs.ClosedLists.{driven, driven-drives}
+use Rattle.usart.proofs.Examples.{listening, frames, level, run, received, loaded, clocks, handed}
+
+pub m8 : (v : ℕ) → M8 v
+unfolding sending statusBits zeros leftOf steppedOf listenedOf enabledOf isBusy clockOf isDriven outputOf formattedOf sizeOf transmittedOf frameBit sumOfBits
+m8 v = record { start = refl; full = refl; udre = refl; txc = refl }
+
+pub delivered : Delivered 813 100 frames listening received
+unfolding listening frames level run received lineLevel frameBit sumOfBits leftOf steppedOf idleOf castOf nextBitOf shiftedOf decidedOf votedOf sampledOf samplerOf listenedOf isBusy clockOf sizeOf parityOf formattedOf writeC isReservedC sizedC timedOf transmittedOf vectorOf parityError
+delivered = record { frames = refl; inTime = ((lit≤ tt, lit< tt), ((lit≤ tt, lit< tt), tt)) }
+
+pub sent : Sends loaded handed
+unfolding loaded clocks handed tickFrom driven lineLevel frameBit sumOfBits leftOf steppedOf listenedOf isBusy clockOf isDriven outputOf transmittedOf
+sent = record {
+  remains = refl;
+  fits = (lit< tt, (lit< tt, tt));
+  spaced = (lit≤ tt, (tt, tt));
+  drives =
+      driven-drives (lineLevel (loaded .format) (bitClocks loaded) 1 (framesOf loaded (takenOf 0 loaded handed))) 0 (outputsOf loaded handed) refl;
+}

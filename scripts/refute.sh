@@ -1,0 +1,100 @@
+#!/usr/bin/env bash
+# Shows that wrong programs are refuted, and not only refused: in a copy of its crate with a must-fail edit applied, a statement's negation is
+# proved of a closed list. Runs every refutations/NAME.refutation, or those named.
+#
+# A refutation has, after some words of its own: 'crate:' and 'edit:' (crates/CRATE/must-fail/EDIT.edit); 'laws:', the files of laws that the
+# copy keeps, all others being left out, since the wrong program breaks them; 'without:', what else is left out; and after 'proof:' a file of
+# laws, proofs/Refutation.antt. The copy is then proved whole by rt: the edited functions meet their contracts, and the negation holds.
+set -u -o pipefail
+cd "$(dirname "$0")/.."
+top=$PWD
+work=$top/target/refute
+
+field() { sed -n "s/^$1: //p" "$2" | tr '\n' ' '; } # NAME FILE: the text before 'proof:' has each field's lines
+
+# Applies an edit as rt does: each 'old:' text stands once in the file that the last 'file:' named.
+apply() { # EDIT, in the crate's copy
+    local line f='' old=''
+    while IFS= read -r line; do
+        case $line in
+        'file: '*) f=${line#file: } ;;
+        'old: '*) old=${line#old: } ;;
+        'new:'*)
+            line=${line#new:}
+            OLD=$old NEW=${line# } awk '
+                { text = text $0 "\n" }
+                END {
+                    old = ENVIRON["OLD"]
+                    at = index(text, old)
+                    rest = substr(text, at + length(old))
+                    if (!at || index(rest, old)) exit 1
+                    printf "%s%s%s", substr(text, 1, at - 1), ENVIRON["NEW"], rest
+                }' "$f" >edited && mv edited "$f" || { echo "refute: $1: '$old' does not stand once in $f"; return 1; }
+            ;;
+        esac
+    done <"$1"
+}
+
+# Leaves out files or folders of the copy, and what declares them.
+leave_out() { # PATH..
+    local p name
+    for p in "$@"; do
+        [ -e "$p" ] || { echo "refute: there is no $p to leave out"; return 1; }
+        name=$(basename "$p")
+        name=${name%.*}
+        case $p in
+        proofs/*.antt | specs/*.antt) sed -i "/^pub mod $name\$/d" "${p%%/*}/Lib.antt" ;;
+        src/*) sed -i "/^mod $name;\$/d; /^pub use $name::/d" src/lib.rt ;;
+        esac
+        rm -rf "$p"
+    done
+}
+
+# The files of laws that a refutation does not keep.
+others() { # FILE
+    local p kept
+    kept=" Lib $(field laws "$1")"
+    for p in proofs/*.antt; do
+        case $kept in *" $(basename "$p" .antt) "*) ;; *) echo "$p" ;; esac
+    done
+}
+
+refute() { # NAME
+    local file=$top/refutations/$1.refutation crate edit without began=$SECONDS
+    crate=$(field crate "$file") crate=${crate% }
+    edit=$(field edit "$file") edit=${edit% }
+    rm -rf "$work/crates/$crate"
+    cp -R "$top/crates/$crate" "$work/crates/$crate"
+    cd "$work/crates/$crate" || return 1
+    without=$(field without "$file")
+    # shellcheck disable=SC2086 # the paths may have wildcards
+    apply "$top/crates/$crate/must-fail/$edit.edit" && leave_out $without $(others "$file") || return 1
+    sed '1,/^proof:$/d' "$file" >proofs/Refutation.antt
+    echo 'pub mod Refutation' >>proofs/Lib.antt
+    rm -rf must-fail
+    cd "$work" || return 1
+    if rt check "$crate" >"$work/$1.log" 2>&1 && grep -q '^rt: ok' "$work/$1.log"; then
+        echo "refuted: $1 ($((SECONDS - began)) s)"
+    else
+        echo "refute: $1 is NOT refuted; see target/refute/$1.log:"
+        grep -m 5 -E 'error|NOT PROVED' "$work/$1.log"
+        return 1
+    fi
+    rm -rf "$work/crates/$crate"
+    cp -R "$top/crates/$crate" "$work/crates/$crate"
+}
+
+# The crates that no edit touches are proved once, or taken from the repository's own last run.
+mkdir -p "$work"
+rm -rf "$work/crates"
+cp -R crates crates.txt "$work/"
+rm -rf "$work"/crates/*/must-fail
+[ -d "$work/target" ] || { mkdir "$work/target" && for d in rlib stamp; do [ ! -d target/$d ] || cp -R target/$d "$work/target/"; done; }
+
+[ $# -gt 0 ] || set -- $(cd refutations && ls ./*.refutation | sed 's|^\./||; s|\.refutation$||')
+failed=0
+for name in "$@"; do
+    (refute "$name") || failed=$((failed + 1))
+done
+echo "refutations: $(($# - failed)) hold, $failed do not"
+[ "$failed" -eq 0 ]
