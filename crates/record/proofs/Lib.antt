@@ -1,6 +1,8 @@
 pub mod ListLaws
 pub mod CodeLaws
+pub mod Accepted
 pub mod Accepting
+pub mod Images
 pub mod RangeLaws
 pub mod LiftLaws
 pub mod ByteLaws

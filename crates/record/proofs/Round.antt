@@ -16,7 +16,7 @@ use Rattle.record.specs.Ranges.{inRange}
 use Rattle.record.specs.Codec.{recordOf, decodeOf, storedOf}
 use Rattle.record.specs.declared.codec.Decoded.{Decoded}
 use Rattle.record.specs.declared.codec.Decoded.the-variants.{Accepted, Refused}
-use Rattle.record.proofs.Accepting.{image, source}
+use Rattle.record.proofs.Images.{image, source}
 use Rattle.record.proofs.RangeLaws.{range-valid, valid-range}
 use Rattle.record.proofs.LiftLaws.{lifted}
 use Rattle.record.proofs.ByteLaws.{image-limits}

@@ -2,8 +2,10 @@
 -- read before the second completes, and the sender's line of two bytes. A wrong program that changes a definition is refused here first, by
 -- the value that it gets wrong.
 use Prim.Native.Nat.{ℕ}
-use mathlib.Core.Path.{refl}
+use mathlib.Core.List.{map}
+use mathlib.Core.Path.{_≡_, refl}
 use lib.Dec.{lit≤, lit<}
+use lib.ListN.{length}
 use Rattle.frame.specs.Parity.{sumOfBits}
 use Rattle.frame.specs.Word.{frameBit, parityError}
 use Rattle.usart.specs.Baud.{leftOf}
@@ -13,9 +15,10 @@ use Rattle.usart.specs.Receiver.{listenedOf, enabledOf}
 use Rattle.usart.specs.Unit.{isBusy, clockOf, isDriven, outputOf}
 use Rattle.usart.specs.Settings.{sizeOf, parityOf}
 use Rattle.usart.specs.Write.{formattedOf, writeC, isReservedC, sizedC, timedOf, transmittedOf, vectorOf}
+use Rattle.usart.specs.Event.{finalOf}
 use Rattle.usart.specs.Line.{lineLevel}
 use Rattle.usart.specs.Receiving.{Delivered}
-use Rattle.usart.specs.Sending.{tickFrom, bitClocks, framesOf, takenOf, outputsOf, Sends}
+use Rattle.usart.specs.Sending.{waiting, tickFrom, bitClocks, framesOf, takenOf, notBefore, dataIn, outputsOf, Sends}
 use Rattle.usart.specs.Marked.{sending, statusBits, zeros, M8}
 use Rattle.usart.proofs.ClosedLists.{driven, driven-drives}
 use Rattle.usart.proofs.Examples.{listening, frames, level, run, received, loaded, clocks, handed}
@@ -28,10 +31,15 @@ pub delivered : Delivered 813 100 frames listening received
 unfolding listening frames level run received lineLevel frameBit sumOfBits leftOf steppedOf idleOf castOf nextBitOf shiftedOf decidedOf votedOf sampledOf samplerOf listenedOf isBusy clockOf sizeOf parityOf formattedOf writeC isReservedC sizedC timedOf transmittedOf vectorOf parityError
 delivered = record { frames = refl; inTime = ((lit≤ tt, lit< tt), ((lit≤ tt, lit< tt), tt)) }
 
+-- what the list's end leaves in the buffer
+remains : map dataIn (notBefore (length (outputsOf loaded handed)) (framesOf loaded (takenOf 0 loaded handed))) ≡ waiting (finalOf loaded handed .sender .buffer)
+unfolding loaded clocks handed tickFrom frameBit sumOfBits leftOf steppedOf listenedOf isBusy clockOf isDriven outputOf transmittedOf
+remains = refl
+
 pub sent : Sends loaded handed
 unfolding loaded clocks handed tickFrom driven lineLevel frameBit sumOfBits leftOf steppedOf listenedOf isBusy clockOf isDriven outputOf transmittedOf
 sent = record {
-  remains = refl;
+  remains = remains;
   fits = (lit< tt, (lit< tt, tt));
   spaced = (lit≤ tt, (tt, tt));
   drives =

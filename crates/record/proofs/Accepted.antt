@@ -1,0 +1,10 @@
+-- The record of a device after reset is accepted as that device, by computing alone and before any law is used: a wrong program that changes
+-- a definition is refused here first.
+use mathlib.Core.Path.{_≡_, refl}
+use Rattle.device.specs.Unit.{resetDevice}
+use Rattle.record.specs.Codec.{recordOf, decodeOf, eqList}
+use Rattle.record.specs.declared.codec.Decoded.the-variants.{Accepted}
+
+pub reset-accepted : decodeOf (recordOf resetDevice) ≡ Accepted resetDevice
+unfolding recordOf decodeOf eqList
+reset-accepted = refl
