@@ -1,7 +1,7 @@
 -- M1 to M10.
-use Prim.Native.Nat.{_≤_}
+use Prim.Native.Nat.{ℕ, _≤_}
 use mathlib.Core.Bool.{Bool, true, false}
-use mathlib.Core.Path.{refl}
+use mathlib.Core.Path.{refl, subst}
 use native.Mathlib.Omega.{arith}
 use lib.Dec.{lit≤}
 use Rattle.choice.specs.Pick.{pick}
@@ -13,6 +13,7 @@ use Rattle.frame.specs.declared.format.Parity.the-variants.{Off, Even, Odd}
 use Rattle.frame.specs.declared.format.Size.{Size}
 use Rattle.frame.specs.declared.format.Size.the-variants.{Five, Six, Seven, Eight, Nine}
 use Rattle.usart.specs.Baud.{leftOf}
+use Rattle.usart.specs.Bit.{BitLasts}
 use Rattle.usart.specs.Line.{lineLevel}
 use Rattle.usart.specs.Receiver.{listenedOf, enabledOf}
 use Rattle.usart.specs.Sampler.{idleOf, castOf, nextBitOf, shiftedOf, decidedOf, votedOf, sampledOf, samplerOf}
@@ -20,6 +21,7 @@ use Rattle.usart.specs.Sender.{steppedOf}
 use Rattle.usart.specs.Settings.{sizeOf}
 use Rattle.usart.specs.Unit.{isBusy, clockOf, isDriven, outputOf}
 use Rattle.usart.specs.Write.{formattedOf, clearedOf, writeA, isReservedC, writeC, transmittedOf}
+use Rattle.usart.proofs.OneBit.{bit-lasts}
 use Rattle.spi.specs.Unit.{outputOf as spiOutput}
 use Rattle.spi.specs.Clock.{steppedOf as spiStepped}
 use Rattle.spi.proofs.Transfers.{m7}
@@ -28,10 +30,10 @@ use Rattle.device.specs.Run.{ranOf}
 use Rattle.history.specs.Marked.{M1, M2, M4, M6, M8, M9, M10, sending, statusBits, zeros, fourFrames, lineFrom, listening, heard, overrun, cases, Each}
 
 m1 : M1
-m1 f e = rw e
+m1 u e q = subst (λ (n : ℕ). BitLasts n u) (rw (e, q)) (bit-lasts u)
 
 m2 : M2
-m2 f e = rw e
+m2 u e q = subst (λ (n : ℕ). BitLasts n u) (rw (e, q)) (bit-lasts u)
 
 -- the lengths of frames, by the sizes and parities
 size-bits : (z : Size) → (5 ≤ dataBits z) × (dataBits z ≤ 9)

@@ -15,8 +15,8 @@ use Rattle.usart.specs.Line.{lineLevel, Fits, Spaced}
 use Rattle.usart.specs.Read.{ucsr0a}
 use Rattle.usart.specs.Receiving.{bitAt}
 use Rattle.usart.specs.Sender.{isVacant}
-use Rattle.usart.specs.Sending.{waiting, Taken, takenAt, framesOf, notBefore, Drives, dataIn, bitClocks, outputsOf as outputsAt, takenOf as takenIn, Sends as SendsAt}
-use Rattle.usart.specs.Unit.{clockOf}
+use Rattle.usart.specs.Sending.{waiting, Taken, takenAt, framesOf, notBefore, Drives, dataIn, outputsOf as outputsAt, takenOf as takenIn, Sends as SendsAt}
+use Rattle.usart.specs.Unit.{bitClocks, clockOf}
 use Rattle.usart.specs.declared.unit.Usart.{Usart}
 use Rattle.usart.proofs.AppendLaws.{outputs-append, taken-append}
 use Rattle.usart.proofs.ReadLaws.{status, txb8-bit}

@@ -4,15 +4,17 @@ use mathlib.Core.Bool.{true, false}
 use mathlib.Core.List.{List, [], _∷_, _++_}
 use mathlib.Core.Path.{_≡_}
 use Rattle.choice.specs.Pick.{digit}
-use Rattle.frame.specs.Format.{samples, lastBit}
+use Rattle.frame.specs.Format.{lastBit}
 use Rattle.frame.specs.Limit.{limit, Within}
 use Rattle.frame.specs.Parity.{parityIn}
 use Rattle.frame.specs.Vote.{majorityOf}
 use Rattle.frame.specs.declared.format.Format.{Format}
 use Rattle.frame.specs.declared.format.Parity.the-variants.{Even}
 use Rattle.frame.specs.declared.format.Size.the-variants.{Nine}
+use Rattle.usart.specs.Bit.{BitLasts}
 use Rattle.usart.specs.Line.{Sent, lineLevel}
 use Rattle.usart.specs.Receiving.{bitAt}
+use Rattle.usart.specs.declared.unit.Usart.{Usart}
 use Rattle.spi.specs.Control.{numberOf}
 use Rattle.spi.specs.Event.{Event, clock, clocksIn, isUndisturbed}
 use Rattle.spi.specs.Exchange.{SetsSpif, MayStart}
@@ -25,10 +27,6 @@ use Rattle.device.specs.Run.{ranOf}
 use Rattle.device.specs.Unit.{resetDevice, clockOf, outputOf}
 use Rattle.device.specs.declared.unit.Device.{Device}
 
--- clocks a bit
-abbrev pub bitClocks : Format → ℕ → ℕ
-bitClocks f ubrr = samples f * (ubrr + 1)
-
 -- a register written, and what one reads
 abbrev pub written : Device → ℕ → ℕ → Device
 written d a v = settled d (writeOf d a v)
@@ -36,13 +34,13 @@ written d a v = settled d (writeOf d a v)
 abbrev pub reads : Device → ℕ → ℕ
 reads d a = valueOf (readOf d a)
 
--- M1: UBRR 51, S = 16: a bit is 832 clocks
+-- M1: UBRR 51, S = 16: a bit is 832 clocks, of every unit so set, on TxD
 abbrev pub M1 : Type 0
-M1 = (f : Format) → f .u2x ≡ false → bitClocks f 51 ≡ 832
+M1 = (u : Usart) → u .format .u2x ≡ false → u .baud .ubrr ≡ 51 → BitLasts 832 u
 
 -- M2: UBRR 0, S = 8: 8
 abbrev pub M2 : Type 0
-M2 = (f : Format) → f .u2x ≡ true → bitClocks f 0 ≡ 8
+M2 = (u : Usart) → u .format .u2x ≡ true → u .baud .ubrr ≡ 0 → BitLasts 8 u
 
 -- M3: even parity of 0x55 is 0, of 0x07 is 1
 abbrev pub M3 : Type 0

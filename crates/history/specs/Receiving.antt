@@ -6,10 +6,11 @@ use mathlib.Core.Path.{_≡_}
 use lib.Dec.{eqb}
 use lib.ListN.{length}
 use Rattle.choice.specs.Pick.{pick}
-use Rattle.frame.specs.Format.{samples, wordBits}
+use Rattle.frame.specs.Format.{wordBits}
 use Rattle.frame.specs.Limit.{limit, Within}
 use Rattle.usart.specs.Line.{Sent, lineLevel, Fits, Spaced, EndedBy, Shows}
 use Rattle.usart.specs.Receiving.{Ready, heldBy, bitAt, Seen, seenIn, clean, InTime, Free as FreeAt, entriesOf as entriesAt}
+use Rattle.usart.specs.Unit.{bitClocks}
 use Rattle.device.specs.Serial.{clocksOf}
 use Rattle.device.specs.declared.unit.Device.{Device}
 use Rattle.record.specs.Codec.{decodeOf}
@@ -39,7 +40,7 @@ pub record Hears (P Q : ℕ) (fs : List Sent) (d : Device) (s : List ℕ) (cs : 
   pub onlyData : OnlyData s cs
   pub p1 : 1 ≤ P
   pub q1 : 1 ≤ Q
-  pub within : Within (limit (d .usart .format .u2x) (wordBits (d .usart .format))) (samples (d .usart .format) * (d .usart .baud .ubrr + 1) * Q) P
+  pub within : Within (limit (d .usart .format .u2x) (wordBits (d .usart .format))) (bitClocks (d .usart) * Q) P
   pub fits : Fits (d .usart .format) fs
   pub spaced : Spaced (wordBits (d .usart .format)) P Q fs
   pub shows : Shows (lineLevel (d .usart .format) P Q fs) 0 (rxdOf s cs)

@@ -10,7 +10,8 @@ use Rattle.frame.specs.Format.{wordBits}
 use Rattle.frame.specs.Word.{dataOf}
 use Rattle.usart.specs.Line.{lineLevel, Fits, Spaced}
 use Rattle.usart.specs.Receiving.{bitAt}
-use Rattle.usart.specs.Sending.{waiting, Taken, takenAt, framesOf, notBefore, Drives, dataIn, bitClocks}
+use Rattle.usart.specs.Unit.{bitClocks}
+use Rattle.usart.specs.Sending.{waiting, Taken, takenAt, framesOf, notBefore, Drives, dataIn}
 use Rattle.usart.specs.declared.sender.Shifter.the-variants.{Resting}
 use Rattle.device.specs.Output.{txdBits}
 use Rattle.device.specs.declared.unit.Device.{Device}

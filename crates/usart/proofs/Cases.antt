@@ -12,13 +12,13 @@ use Rattle.usart.specs.Baud.{leftOf}
 use Rattle.usart.specs.Sender.{steppedOf}
 use Rattle.usart.specs.Sampler.{idleOf, castOf, nextBitOf, shiftedOf, decidedOf, votedOf, sampledOf, samplerOf}
 use Rattle.usart.specs.Receiver.{listenedOf, enabledOf}
-use Rattle.usart.specs.Unit.{isBusy, clockOf, isDriven, outputOf}
+use Rattle.usart.specs.Unit.{bitClocks, isBusy, clockOf, isDriven, outputOf}
 use Rattle.usart.specs.Settings.{sizeOf, parityOf}
 use Rattle.usart.specs.Write.{formattedOf, writeC, isReservedC, sizedC, timedOf, transmittedOf, vectorOf}
 use Rattle.usart.specs.Event.{finalOf}
 use Rattle.usart.specs.Line.{lineLevel}
 use Rattle.usart.specs.Receiving.{Delivered}
-use Rattle.usart.specs.Sending.{waiting, tickFrom, bitClocks, framesOf, takenOf, notBefore, dataIn, outputsOf, Sends}
+use Rattle.usart.specs.Sending.{waiting, tickFrom, framesOf, takenOf, notBefore, dataIn, outputsOf, Sends}
 use Rattle.usart.specs.Marked.{sending, statusBits, zeros, M8}
 use Rattle.usart.proofs.ClosedLists.{driven, driven-drives}
 use Rattle.usart.proofs.Examples.{listening, frames, level, run, received, loaded, clocks, handed}

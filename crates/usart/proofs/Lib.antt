@@ -12,6 +12,8 @@ pub mod ClockLaws
 pub mod ReceivingLine
 pub mod TickLaws
 pub mod SendingLine
+pub mod BusyLaws
+pub mod OneBit
 pub mod ValidLaws
 pub mod OutputLaws
 pub mod AppendLaws

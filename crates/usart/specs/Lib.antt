@@ -13,5 +13,6 @@ pub mod Line
 pub mod Receiving
 pub mod Sending
 pub mod Marked
+pub mod Bit
 pub mod Refusing
 pub mod Counting

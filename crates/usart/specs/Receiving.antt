@@ -6,12 +6,12 @@ use mathlib.Core.Path.{_≡_}
 use lib.Dec.{eqb, ltb}
 use lib.ListN.{length}
 use Rattle.choice.specs.Pick.{pick, digit}
-use Rattle.frame.specs.Format.{samples, wordBits}
+use Rattle.frame.specs.Format.{wordBits}
 use Rattle.frame.specs.Limit.{limit, Within}
 use Rattle.usart.specs.Baud.{ticks}
 use Rattle.usart.specs.Sampler.{samplerOf}
 use Rattle.usart.specs.Queue.{heldIn}
-use Rattle.usart.specs.Unit.{clockOf}
+use Rattle.usart.specs.Unit.{bitClocks, clockOf}
 use Rattle.usart.specs.Read.{readOf}
 use Rattle.usart.specs.Event.{Event, clock, write, read, vector, nextOf, finalOf, isUdr0, OnlyData, levelsOf}
 use Rattle.usart.specs.Line.{Sent, lineLevel, Fits, Spaced, EndedBy, Shows}
@@ -57,7 +57,7 @@ pub record Hears (P Q : ℕ) (fs : List Sent) (u : Usart) (es : List Event) : Ty
   pub onlyData : OnlyData u es
   pub p1 : 1 ≤ P
   pub q1 : 1 ≤ Q
-  pub within : Within (limit (u .format .u2x) (wordBits (u .format))) (samples (u .format) * (u .baud .ubrr + 1) * Q) P
+  pub within : Within (limit (u .format .u2x) (wordBits (u .format))) (bitClocks u * Q) P
   pub fits : Fits (u .format) fs
   pub spaced : Spaced (wordBits (u .format)) P Q fs
   pub shows : Shows (lineLevel (u .format) P Q fs) 0 (levelsOf es)

@@ -6,10 +6,10 @@ use mathlib.Core.Path.{_≡_}
 use lib.Dec.{leb}
 use lib.ListN.{length}
 use Rattle.choice.specs.Pick.{pick, digit}
-use Rattle.frame.specs.Format.{samples, wordBits, lastBit}
+use Rattle.frame.specs.Format.{wordBits, lastBit}
 use Rattle.frame.specs.Word.{dataOf}
 use Rattle.usart.specs.Sender.{isVacant}
-use Rattle.usart.specs.Unit.{clockOf, outputOf}
+use Rattle.usart.specs.Unit.{bitClocks, clockOf, outputOf}
 use Rattle.usart.specs.Event.{Event, clock, write, read, vector, nextOf, finalOf, isUdr0, OnlyData}
 use Rattle.usart.specs.Line.{Sent, lineLevel, Fits, Spaced}
 use Rattle.usart.specs.Valid.{ValidBuffer}
@@ -59,10 +59,7 @@ takenOf j u (vector ∷ es) = takenOf j (nextOf u vector) es
 unfoldable pub tickFrom : Baud → ℕ → ℕ
 tickFrom b j = b .left .0 + (j - b .left .0 + b .ubrr) / (b .ubrr + 1) * (b .ubrr + 1)
 
--- clocks a bit, and a frame with its last stop bit
-abbrev pub bitClocks : Usart → ℕ
-bitClocks u = samples (u .format) * (u .baud .ubrr + 1)
-
+-- clocks a frame, with its last stop bit
 abbrev pub frameClocks : Usart → ℕ
 frameClocks u = (lastBit (u .format) + 1) * bitClocks u
 

@@ -2,6 +2,7 @@
 use Prim.Native.Nat.{ℕ, _+_, _*_}
 use mathlib.Core.Bool.{Bool, true, false, not}
 use Rattle.choice.specs.Pick.{pick, digit}
+use Rattle.frame.specs.Format.{samples}
 use Rattle.frame.specs.declared.format.Size.the-variants.{Eight}
 use Rattle.frame.specs.declared.format.Parity.the-variants.{Off}
 use Rattle.usart.specs.Baud.{ticks, baudOf}
@@ -41,6 +42,10 @@ unfoldable pub clockOf : Usart → Bool → Usart
 clockOf u rxd =
     pick (ticks (u .baud)) (tickedOf u rxd)
     (record { baud = baudOf (u .baud); format = u .format; control = u .control; sender = u .sender; receiver = u .receiver })
+
+-- a bit lasts S ticks, which are UBRR + 1 clocks apart
+abbrev pub bitClocks : Usart → ℕ
+bitClocks u = samples (u .format) * (u .baud .ubrr + 1)
 
 -- TxD is driven with TXEN or frames left
 unfoldable pub isDriven : Usart → Bool
