@@ -1,7 +1,8 @@
 -- M1 to M10.
-use Prim.Native.Nat.{ℕ, _≤_}
+use Prim.Native.Nat.{ℕ, zero, suc, _+_, _≤_}
 use mathlib.Core.Bool.{Bool, true, false}
-use mathlib.Core.Path.{refl, subst}
+use mathlib.Core.List.{_∷_}
+use mathlib.Core.Path.{_≡_, refl, ap, subst, _∙_}
 use native.Mathlib.Omega.{arith}
 use lib.Dec.{lit≤}
 use Rattle.choice.specs.Pick.{pick}
@@ -15,19 +16,26 @@ use Rattle.frame.specs.declared.format.Size.the-variants.{Five, Six, Seven, Eig
 use Rattle.usart.specs.Baud.{leftOf}
 use Rattle.usart.specs.Bit.{BitLasts}
 use Rattle.usart.specs.Line.{lineLevel}
+use Rattle.usart.specs.Marked.{sending as unitSending, statusBits as unitBits}
+use Rattle.usart.specs.Read.{ucsr0a}
 use Rattle.usart.specs.Receiver.{listenedOf, enabledOf}
+use Rattle.usart.specs.Receiving.{bitAt}
 use Rattle.usart.specs.Sampler.{idleOf, castOf, nextBitOf, shiftedOf, decidedOf, votedOf, sampledOf, samplerOf}
 use Rattle.usart.specs.Sender.{steppedOf}
 use Rattle.usart.specs.Settings.{sizeOf}
-use Rattle.usart.specs.Unit.{isBusy, clockOf, isDriven, outputOf}
+use Rattle.usart.specs.Unit.{isBusy, clockOf as serialClock, isDriven, outputOf}
 use Rattle.usart.specs.Write.{formattedOf, clearedOf, writeA, isReservedC, writeC, transmittedOf}
+use Rattle.usart.specs.declared.unit.Usart.{Usart}
+use Rattle.usart.proofs.Cases.{m8 as m8-unit}
 use Rattle.usart.proofs.OneBit.{bit-lasts}
 use Rattle.spi.specs.Unit.{outputOf as spiOutput}
 use Rattle.spi.specs.Clock.{steppedOf as spiStepped}
 use Rattle.spi.proofs.Transfers.{m7}
 use Rattle.device.specs.Address.{placeOf}
 use Rattle.device.specs.Run.{ranOf}
-use Rattle.history.specs.Marked.{M1, M2, M4, M6, M8, M9, M10, sending, statusBits, zeros, fourFrames, lineFrom, listening, heard, overrun, cases, Each}
+use Rattle.device.specs.Unit.{clockOf}
+use Rattle.device.specs.declared.unit.Device.{Device}
+use Rattle.history.specs.Marked.{M1, M2, M4, M6, M8, M9, M10, sending, statusBits, fourFrames, lineFrom, listening, heard, overrun, cases, Each}
 
 m1 : M1
 m1 u e q = subst (λ (n : ℕ). BitLasts n u) (rw (e, q)) (bit-lasts u)
@@ -68,9 +76,21 @@ m6 : M6
 unfolding placeOf isReservedC writeC sizeOf
 m6 d e = rw e
 
+-- M8 is the serial unit's: its bits of UCSR0A are the device's
+status-unit : (k : ℕ) (d : Device) (n : ℕ) → statusBits k d n ≡ unitBits k (d .usart) n
+unfolding statusBits unitBits placeOf
+status-unit k d zero = refl
+status-unit k d (suc n) = ap (_∷_ (bitAt (ucsr0a (serialClock (d .usart) true)) k)) (status-unit k (clockOf d 1) n)
+
+started : (v : ℕ) → sending v .usart ≡ unitSending v
+unfolding sending unitSending placeOf enabledOf isBusy formattedOf sizeOf transmittedOf
+started v = refl
+
 m8 : M8
-unfolding sending statusBits zeros placeOf leftOf steppedOf listenedOf enabledOf isBusy clockOf isDriven outputOf formattedOf sizeOf transmittedOf frameBit spiStepped spiOutput sumOfBits
-m8 v = (refl, (refl, (refl, refl)))
+unfolding sending unitSending placeOf enabledOf isBusy formattedOf sizeOf transmittedOf spiStepped spiOutput
+m8 v =
+    let u = m8-unit v in
+    (ap (λ (x : ℕ). x + 0) (u .start), (u .full, (status-unit 5 (sending v) 1 ∙ ap (λ (x : Usart). unitBits 5 x 1) (started v) ∙ u .udre, status-unit 6 (sending v) 161 ∙ ap (λ (x : Usart). unitBits 6 x 161) (started v) ∙ u .txc)))
 
 m9 : M9
 m9 = (
@@ -79,7 +99,7 @@ m9 = (
 )
 
 m10 : M10
-unfolding overrun heard listening lineFrom fourFrames ranOf placeOf leftOf steppedOf listenedOf enabledOf isBusy clockOf formattedOf clearedOf writeA sizeOf frameBit lineLevel spiStepped sumOfBits idleOf castOf nextBitOf shiftedOf decidedOf votedOf sampledOf samplerOf parityError
+unfolding overrun heard listening lineFrom fourFrames ranOf placeOf leftOf steppedOf listenedOf enabledOf isBusy serialClock formattedOf clearedOf writeA sizeOf frameBit lineLevel spiStepped sumOfBits idleOf castOf nextBitOf shiftedOf decidedOf votedOf sampledOf samplerOf parityError
 m10 = refl
 
 pub marked : Each cases

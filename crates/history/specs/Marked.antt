@@ -13,6 +13,7 @@ use Rattle.frame.specs.declared.format.Parity.the-variants.{Even}
 use Rattle.frame.specs.declared.format.Size.the-variants.{Nine}
 use Rattle.usart.specs.Bit.{BitLasts}
 use Rattle.usart.specs.Line.{Sent, lineLevel}
+use Rattle.usart.specs.Marked.{zeros}
 use Rattle.usart.specs.Receiving.{bitAt}
 use Rattle.usart.specs.declared.unit.Usart.{Usart}
 use Rattle.spi.specs.Control.{numberOf}
@@ -78,10 +79,6 @@ sending v = written (written resetDevice 0xC1 0x08) 0xC6 v
 unfoldable pub statusBits : ℕ → Device → ℕ → List ℕ
 statusBits k d zero = []
 statusBits k d (suc n) = bitAt (reads (clockOf d 1) 0xC0) k ∷ statusBits k (clockOf d 1) n
-
-unfoldable pub zeros : ℕ → List ℕ
-zeros zero = []
-zeros (suc n) = 0 ∷ zeros n
 
 -- M8: start bit on clock 1 (TxD driven and low), UDRE back on clock 1, TXC on clock 161
 abbrev pub M8 : Type 0

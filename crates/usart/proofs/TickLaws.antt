@@ -1,12 +1,16 @@
--- The ticks of the baud clock by number: where the next one is, and that `tickFrom` is the first from a clock on.
+-- The ticks of the baud clock by number: where the next one is, and that `tickFrom` is the first clock from another on at which the baud clock
+-- ticks.
 use mathlib.Core.Path.{_≡_, refl, ap}
 use mathlib.Core.Bool.{true, false}
 use mathlib.Core.List.{[], _∷_}
 use Prim.Native.Nat.{ℕ, zero, suc, _+_, _-_, _*_, _/_, _≤_, _<_}
 use native.Mathlib.Nat.{div-eq-of-lt-le, lt-mul-div-succ, div-lt-iff-lt-mul, mul-le-mul-right}
+use native.Mathlib.Decide.{decLt}
 use native.Mathlib.Omega.{arith}
+use borrow.Author.Tests.{eq-eqb, ne-eqb}
 use Rattle.frame.specs.declared.format.Size.the-variants.{Five}
 use Rattle.frame.specs.declared.format.Parity.the-variants.{Off}
+use Rattle.usart.specs.Baud.{ticks, leftOf, baudOf}
 use Rattle.usart.specs.Receiver.{stopped}
 use Rattle.usart.specs.Sending.{takenAt, tickFrom, framesOf}
 use Rattle.usart.specs.declared.baud.Baud.{Baud}
@@ -66,6 +70,49 @@ module _ (b : Baud) where
 
   pub phase-wait : (j k : ℕ) → Phase j (suc k) → Phase (suc j) k
   phase-wait j k p = record { given = p .given; next = omega (arith, p .next); counter = λ h. omega (arith, p .counter h) }
+
+  -- the baud clock after n clocks, by its own rule
+  abbrev pub after : ℕ → Baud
+  after zero = b
+  after (suc n) = baudOf (after n)
+
+  -- what it says of the clock n: UBRR stays, and the counter is where the ticks have it
+  record Counts (n : ℕ) (c : Baud) : Type 0 where
+    rate : c .ubrr ≡ b .ubrr
+    phase : Phase n (c .left .0)
+
+  counts-on : (n : ℕ) (c : Baud) → Counts n c → Counts (suc n) (baudOf c)
+  unfolding leftOf
+  counts-on n c i = by (c .left .0) refl
+    where
+      by : (k : ℕ) → c .left .0 ≡ k → Counts (suc n) (baudOf c)
+      by zero e = record { rate = i .rate; phase = rw (eq-eqb (c .left .0) 0 e, i .rate) (phase-tick n (rw e at (i .phase))) }
+      by (suc k) e =
+          let one : c .left .0 - 1 ≡ k = omega arith in
+          record { rate = i .rate; phase = rw (ne-eqb (c .left .0) 0 (λ q. omega arith), one) (phase-wait n k (rw e at (i .phase))) }
+
+  counts : (n : ℕ) → Counts n (after n)
+  counts zero = record { rate = refl; phase = phase-first }
+  counts (suc n) = counts-on n (after n) (counts n)
+
+  -- `tickFrom` is a clock at which it ticks, and none from clock i on is sooner
+  pub ticks-then : (i : ℕ) → ticks (after (tickFrom b i)) ≡ true
+  ticks-then i =
+      let j : ℕ = tickFrom b i in
+      let k : ℕ = after j .left .0 in
+      let at = tick-at i in
+      let p = counts j .phase in
+      let less : p .given ≤ at .0 → k ≡ 0 = λ h. let m : p .given * M ≤ at .0 * M = mul-le-mul-right M h in omega (arith, p .next, at .1) in
+      let more : at .0 + 1 ≤ p .given → k ≡ 0 =
+      λ h. let m : (at .0 + 1) * M ≤ p .given * M = mul-le-mul-right M h in absurd (omega (arith, p .next, at .1, p .counter (omega arith))) in
+      eq-eqb k 0 (elim (decLt (at .0) (p .given)) [ yes h ↦ more (omega arith) | no h ↦ less (omega arith) ])
+
+  pub ticks-not-before : (i j : ℕ) → i ≤ j → j < tickFrom b i → ticks (after j) ≡ false
+  ticks-not-before i j h g =
+      ne-eqb (after j .left .0) 0
+      (λ e. let p = counts j .phase in
+      let f : tickFrom b i ≤ b .left .0 + p .given * M = tick-first i (p .given) (omega (arith, p .next)) in
+      omega (arith, p .next))
 
 -- UBRR 2, and the counter 7 at first; 5 data bits, 2 stop bits and double speed, so that a frame is 192 clocks. 21 is in the buffer at first, 10 is taken
 -- while it is on the line, and 3 when the shifter has been at rest
