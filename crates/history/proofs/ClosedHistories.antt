@@ -21,7 +21,7 @@ use Rattle.record.specs.declared.codec.Decoded.{Decoded}
 use Rattle.record.specs.declared.codec.Decoded.the-variants.{Accepted}
 use Rattle.history.specs.Call.{Call, reset, write, read, vector, run, report, recordAfter, Passable, deviceIn, OnlyDataCall, OnlyData}
 use Rattle.history.specs.Receiving.{FreeCall, Free}
-use Rattle.history.specs.Serial.{Serial, event, resets, reports, serialParts}
+use Rattle.history.specs.Serial.{Serial, event, resets, serialParts}
 use Rattle.history.proofs.StepLaws.{nextDevice, write-on, induct}
 use Rattle.history.proofs.ViewLaws.{runs, runs-is}
 
@@ -96,7 +96,7 @@ parts d (write a v ∷ cs) = map event (writesAt (placeOf a) v) ++ parts (nextDe
 parts d (read a ∷ cs) = map event (readsAt (placeOf a)) ++ parts (nextDevice d (read a)) cs
 parts d (vector n ∷ cs) = map event (vectorsAt n) ++ parts (nextDevice d (vector n)) cs
 parts d (run ls os ∷ cs) = map event (pick (runs d ls os) (clocksOf ls) []) ++ parts (nextDevice d (run ls os)) cs
-parts d (report ∷ cs) = reports ∷ parts d cs
+parts d (report ∷ cs) = parts d cs
 
 pub parts-are : (s : List ℕ) (d : Device) (cs : List Call) → decodeOf s ≡ Accepted d → Passable cs → serialParts s cs ≡ parts d cs
 unfolding parts
@@ -109,4 +109,4 @@ parts-are = induct (λ (s : List ℕ) (d : Device) (cs : List Call). serialParts
     each s d (read a) cs h k = ap (λ (xs : List Serial). map event (readsAt (placeOf a)) ++ xs) k
     each s d (vector n) cs h k = ap (λ (xs : List Serial). map event (vectorsAt n) ++ xs) k
     each s d (run ls os) cs h k = ap₂ (λ (t : Bool) (xs : List Serial). map event (pick t (clocksOf ls) []) ++ xs) (runs-is s d h ls os) k
-    each s d report cs h k = ap (_∷_ reports) k
+    each s d report cs h k = k

@@ -1,4 +1,5 @@
--- SPI traffic never changes a serial answer: what the serial side is answered is a function of the serial unit and the serial parts alone.
+-- SPI traffic never changes a serial answer: what the serial side is answered is a function of the serial unit and the
+-- serial parts alone.
 use Prim.Native.Nat.{ℕ, _%_}
 use mathlib.Core.Bool.{Bool, true, false}
 use mathlib.Core.List.{List, [], _∷_, _++_, map}
@@ -17,7 +18,7 @@ use Rattle.device.specs.Address.{placeOf}
 use Rattle.device.specs.Answer.{answerOf, readAnswerOf, valueOf}
 use Rattle.device.specs.Register.{serialWritten, spiWritten, writeIn, readIn, vectorOf}
 use Rattle.device.specs.Serial.{isSerial, clocksOf, writesAt, readsAt, vectorsAt}
-use Rattle.device.specs.Unit.{rxdIn, requestsOf}
+use Rattle.device.specs.Unit.{rxdIn}
 use Rattle.device.specs.declared.address.Place.{Place}
 use Rattle.device.specs.declared.address.Place.the-variants.{Serial, Spi, Nowhere}
 use Rattle.device.specs.declared.answer.Refusal.the-variants.{Unknown}
@@ -34,7 +35,7 @@ use Rattle.record.specs.declared.codec.Decoded.the-variants.{Accepted}
 use Rattle.record.proofs.Round.{decode-length}
 use Rattle.warpmagpie.specs.Calls.{requestsValueOn}
 use Rattle.history.specs.Call.{Call, reset, write, read, vector, run, report, recordAfter, finalRecord, Passable, deviceIn, usartOf}
-use Rattle.history.specs.Serial.{Serial as Part, event, resets, reports, serialPart, serialParts, Answer, number, value, txd, requests, serialAnswer, serialAnswers, Alike, Agree}
+use Rattle.history.specs.Serial.{Serial as Part, event, resets, serialPart, serialParts, Answer, number, value, txd, serialAnswer, serialAnswers, requestBits, Alike, Agree}
 use Rattle.history.proofs.StepLaws.{nextDevice, reset-done, write-on, read-on, vector-on, induct}
 use Rattle.history.proofs.ViewLaws.{runs, runs-is, ran-serial}
 use Rattle.history.proofs.SendingLine.{txd-by}
@@ -43,7 +44,6 @@ use Rattle.history.proofs.SendingLine.{txd-by}
 abbrev afterPart : Usart → Part → Usart
 afterPart u (event e) = nextOf u e
 afterPart u resets = resetUsart
-afterPart u reports = u
 
 abbrev answerAt : Usart → Part → Answer
 answerAt u (event (clock rxd)) = txd (outputOf (clockOf u rxd))
@@ -51,7 +51,6 @@ answerAt u (event (writes r v)) = number (numberIn (serialWriteOf u r v))
 answerAt u (event (reads r)) = value 0 (serialReadOf u r .value)
 answerAt u (event takes) = number (numberIn (serialVectorOf u))
 answerAt u resets = number 0
-answerAt u reports = requests (serialRequests u)
 
 abbrev lastOf : Usart → List Part → Usart
 lastOf u [] = u
@@ -102,10 +101,6 @@ run-at : (u : Usart) (t : Bool) (ls : List ℕ) → map txd (outputsAt u (pick t
 run-at u true ls = clocks-at u ls
 run-at u false ls = refl
 
-requests-are : (s : List ℕ) (d : Device) → decodeOf s ≡ Accepted d → requestsValueOn (decodeOf s) ≡ requestsOf d
-unfolding requestsValueOn
-requests-are s d h = ap requestsValueOn h
-
 answer-by : (s : List ℕ) (d : Device) → decodeOf s ≡ Accepted d → (c : Call) → serialAnswer s c ≡ answersAt (d .usart) (serialPart s c)
 answer-by s d h reset = ap (λ (w : Written). number (answerOf w) ∷ []) (reset-done s (decode-length s d h))
 answer-by s d h (write a v) =
@@ -116,7 +111,7 @@ answer-by s d h (vector n) = ap (λ (w : Written). pick (eqb n 0) (number (answe
 answer-by s d h (run ls os) =
     ap (map txd) (txd-by s d h (run ls os)) ∙ run-at (d .usart) (runs d ls os) ls
     ∙ ap (λ (t : Bool). answersAt (d .usart) (map event (pick t (clocksOf ls) []))) (sym (runs-is s d h ls os))
-answer-by s d h report = ap (λ (n : ℕ). requests n ∷ []) (ap (λ (n : ℕ). n % 8) (requests-are s d h) ∙ requests-serial d)
+answer-by s d h report = refl
 
 -- the serial unit after each call
 part-of : (s : List ℕ) (d : Device) → decodeOf s ≡ Accepted d → (c : Call) → nextDevice d c .usart ≡ lastOf (d .usart) (serialPart s c)
@@ -145,9 +140,43 @@ final-parts =
     let rest = serialParts (recordAfter s c) cs in
     k ∙ ap (λ (u : Usart). lastOf u rest) (part-of s d h c) ∙ sym (last-append (d .usart) (serialPart s c) rest))
 
+-- request bits 0 to 2 are those of the serial unit
+bits-of : (s : List ℕ) (d : Device) → decodeOf s ≡ Accepted d → requestBits s ≡ serialRequests (usartOf s)
+unfolding requestsValueOn
+bits-of s d h =
+    ap (λ (x : Decoded). requestsValueOn x % 8) h ∙ requests-serial d ∙ sym (ap (λ (x : Decoded). serialRequests (deviceIn x .usart)) h)
+
+final-bits : (s : List ℕ) (d : Device) (cs : List Call) → decodeOf s ≡ Accepted d → Passable cs
+    → requestBits (finalRecord s cs) ≡ serialRequests (usartOf (finalRecord s cs))
+final-bits =
+    induct (λ (s : List ℕ) (d : Device) (cs : List Call). requestBits (finalRecord s cs) ≡ serialRequests (usartOf (finalRecord s cs))) bits-of (λ s d c cs h k. k)
+
 pub independent : (d e : Device) (s t : List ℕ) (cs ds : List Call) → Alike d e s t cs ds → Agree s t cs ds
-independent d e s t cs ds a = record {
-  answers =
-      answers-view s d cs (a .first) (a .passable) ∙ ap₂ answersAt (a .one) (a .same) ∙ sym (answers-view t e ds (a .second) (a .passableToo));
-  final = final-parts s d cs (a .first) (a .passable) ∙ ap₂ lastOf (a .one) (a .same) ∙ sym (final-parts t e ds (a .second) (a .passableToo));
-}
+independent d e s t cs ds a =
+    let final : usartOf (finalRecord s cs) ≡ usartOf (finalRecord t ds) =
+    final-parts s d cs (a .first) (a .passable) ∙ ap₂ lastOf (a .one) (a .same) ∙ sym (final-parts t e ds (a .second) (a .passableToo)) in
+    record {
+      answers =
+          answers-view s d cs (a .first) (a .passable) ∙ ap₂ answersAt (a .one) (a .same) ∙ sym (answers-view t e ds (a .second) (a .passableToo));
+      requests =
+          final-bits s d cs (a .first) (a .passable) ∙ ap serialRequests final ∙ sym (final-bits t e ds (a .second) (a .passableToo));
+      final = final;
+    }
+
+passable-first : (cs ds : List Call) → Passable (cs ++ ds) → Passable cs
+passable-first [] ds p = tt
+passable-first (c ∷ cs) ds p = (p .0, passable-first cs ds (p .1))
+
+-- .. and at every place inside: wherever the two stand after equal serial parts, with calls still to come, they agree so
+-- far, and so do reports at that place
+pub independent-inside : (d e : Device) (s t : List ℕ) (cs cs′ ds ds′ : List Call) → Alike d e s t (cs ++ cs′) (ds ++ ds′) → serialParts s cs ≡ serialParts t ds
+    → Agree s t cs ds
+independent-inside d e s t cs cs′ ds ds′ a same =
+    independent d e s t cs ds (record {
+      first = a .first;
+      second = a .second;
+      one = a .one;
+      passable = passable-first cs cs′ (a .passable);
+      passableToo = passable-first ds ds′ (a .passableToo);
+      same = same;
+    })

@@ -1,6 +1,6 @@
--- The theorems over histories are not empty: at each speed a closed history that meets every premise of demand 3, with two frames at unequal
--- crystals, and with refused calls, SPI traffic, reads, a write of UDR0, vectors and reports among the runs. The same history is one of the sender's,
--- and one that agrees with its serial side alone.
+-- The theorems over histories are not empty: at each speed a closed history that meets every premise of demand 3, with
+-- two frames at unequal crystals, and with refused calls, SPI traffic, reads, a write of UDR0, vectors and reports among
+-- the runs. The same history is one of the sender's, and one that agrees with its serial side alone, which has no report.
 use Prim.Native.Nat.{ℕ, zero, suc, _+_, _-_, _*_, _≤_}
 use mathlib.Core.Bool.{Bool, true, false}
 use mathlib.Core.List.{List, [], _∷_}
@@ -52,7 +52,7 @@ use Rattle.warpmagpie.specs.Calls.{runOn}
 use Rattle.history.specs.Call.{Call, reset, write, read, vector, run, report, Passable, OnlyData, rxdOf}
 use Rattle.history.specs.Receiving.{Hears, Delivered}
 use Rattle.history.specs.Sending.{MaySend, Sends}
-use Rattle.history.specs.Serial.{reports, Alike, Agree}
+use Rattle.history.specs.Serial.{Alike, Agree}
 use Rattle.history.proofs.ViewLaws.{runs, viewOf}
 use Rattle.history.proofs.ReceivingView.{rxd-view}
 use Rattle.history.proofs.ClosedHistories.{only, onlyAll, only-all, roomy, roomyAll, roomy-all, parts, parts-are}
@@ -96,15 +96,15 @@ blank (suc n) = 0 ∷ blank n
 abbrev pub runFor : Bool → ℕ → ℕ → Call
 runFor u2x j n = run (line u2x j n) (blank n)
 
--- in mid-frame: SPI set up as master and a byte sent, every kind of refusal but 5, a byte for the sender, a read of the empty buffer; the first frame
--- is read while the second is on the line
+-- in mid-frame: SPI set up as master with SPIE and a byte sent, every kind of refusal but 5, a byte for the sender, a
+-- read of the empty buffer; the first frame is read while the second is on the line. Reports are polled all along
 unfoldable pub calls : Bool → List Call
 calls u2x =
     let n : ℕ = 20 * scale u2x in
     let m : ℕ = 60 * scale u2x in
-    runFor u2x 0 n ∷ write 0x24 0x2C ∷ write 0x4C 0x50 ∷ write 0x4E 0xA5 ∷ write 0x4E 0x5A ∷ write 0x4C 0x51 ∷ read 0x4D ∷ write 0xC4 7 ∷ write 0xC2 0xC0 ∷ write 0xC2 0x16
-    ∷ write 0xC3 1 ∷ read 0x99 ∷ vector 0 ∷ vector 1 ∷ vector 7 ∷ run (1 ∷ []) [] ∷ run (33 ∷ []) (0 ∷ []) ∷ run [] [] ∷ report ∷ write 0xC6 85 ∷ read 0xC0 ∷ read 0xC6
-    ∷ runFor u2x n m ∷ report ∷ read 0xC6 ∷ read 0x4E ∷ runFor u2x (n + m) m ∷ []
+    runFor u2x 0 n ∷ write 0x24 0x2C ∷ report ∷ write 0x4C 0xD0 ∷ write 0x4E 0xA5 ∷ report ∷ write 0x4E 0x5A ∷ write 0x4C 0x51 ∷ read 0x4D ∷ write 0xC4 7 ∷ write 0xC2 0xC0
+    ∷ write 0xC2 0x16 ∷ write 0xC3 1 ∷ read 0x99 ∷ vector 0 ∷ vector 1 ∷ vector 7 ∷ run (1 ∷ []) [] ∷ run (33 ∷ []) (0 ∷ []) ∷ run [] [] ∷ report ∷ write 0xC6 85 ∷ read 0xC0
+    ∷ read 0xC6 ∷ runFor u2x n m ∷ report ∷ read 0xC6 ∷ read 0x4E ∷ runFor u2x (n + m) m ∷ report ∷ []
 
 valid : (u2x : Bool) → Valid (start u2x)
 unfolding start
@@ -121,7 +121,7 @@ valid u2x = record {
 passable : (u2x : Bool) → Passable (calls u2x)
 unfolding calls
 passable u2x =
-    (tt, (lit< tt, (lit< tt, (lit< tt, (lit< tt, (lit< tt, (tt, (lit< tt, (lit< tt, (lit< tt, (lit< tt, (tt, (tt, (tt, (tt, (tt, (tt, (tt, (tt, (lit< tt, (tt, (tt, (tt, (tt, (tt, (tt, (tt, tt)))))))))))))))))))))))))))
+    (tt, (lit< tt, (tt, (lit< tt, (lit< tt, (tt, (lit< tt, (lit< tt, (tt, (lit< tt, (lit< tt, (lit< tt, (lit< tt, (tt, (tt, (tt, (tt, (tt, (tt, (tt, (tt, (lit< tt, (tt, (tt, (tt, (tt, (tt, (tt, (tt, (tt, tt))))))))))))))))))))))))))))))
 
 -- what is found by computing: the calls' tests, and that the done runs show the line
 unfoldable meets : Bool → Bool
@@ -203,17 +203,17 @@ sender-witness u2x = record { valid = accepted u2x; enabled = refl; resting = re
 pub sent : (u2x : Bool) → Sends (start u2x) (recordOf (start u2x)) (calls u2x)
 sent u2x = sends (start u2x) (recordOf (start u2x)) (calls u2x) (sender-witness u2x)
 
--- the serial side of the history alone, its clocks split into other runs
+-- the serial side of the history alone, with no SPI traffic and no report, its clocks split into other runs
 unfoldable pub quiet : Bool → List Call
 quiet u2x =
     let n : ℕ = 20 * scale u2x in
     let m : ℕ = 60 * scale u2x in
-    runFor u2x 0 7 ∷ runFor u2x 7 (n - 7) ∷ write 0xC4 7 ∷ write 0xC2 0xC0 ∷ write 0xC2 0x16 ∷ vector 0 ∷ report ∷ write 0xC6 85 ∷ read 0xC0 ∷ read 0xC6 ∷ runFor u2x n 5
-    ∷ runFor u2x (n + 5) (m - 5) ∷ report ∷ read 0xC6 ∷ runFor u2x (n + m) m ∷ []
+    runFor u2x 0 7 ∷ runFor u2x 7 (n - 7) ∷ write 0xC4 7 ∷ write 0xC2 0xC0 ∷ write 0xC2 0x16 ∷ vector 0 ∷ write 0xC6 85 ∷ read 0xC0 ∷ read 0xC6 ∷ runFor u2x n 5
+    ∷ runFor u2x (n + 5) (m - 5) ∷ read 0xC6 ∷ runFor u2x (n + m) m ∷ []
 
 quiet-passable : (u2x : Bool) → Passable (quiet u2x)
 unfolding quiet
-quiet-passable u2x = (tt, (tt, (lit< tt, (lit< tt, (lit< tt, (tt, (tt, (lit< tt, (tt, (tt, (tt, (tt, (tt, (tt, (tt, tt)))))))))))))))
+quiet-passable u2x = (tt, (tt, (lit< tt, (lit< tt, (lit< tt, (tt, (lit< tt, (tt, (tt, (tt, (tt, (tt, (tt, tt)))))))))))))
 
 same : (u2x : Bool) → parts (start u2x) (calls u2x) ≡ parts (start u2x) (quiet u2x)
 unfolding parts start frames level line blank calls quiet lineLevel frameBit sumOfBits areLevels runOn vectorsAt placeOf

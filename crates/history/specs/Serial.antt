@@ -1,5 +1,6 @@
--- SPI traffic never changes a serial answer (document 01, 'The line of demand 3', its end): what the serial side of a history is, and what
--- it is answered.
+-- SPI traffic never changes a serial answer (document 01, 'The line of demand 3', its end): what the serial side of a
+-- history is, and what it is answered. A report is no part of it: it may stand anywhere, and its bits 0 to 2 are those of
+-- the serial side where it stands.
 use Prim.Native.Nat.{ℕ, _%_}
 use mathlib.Core.List.{List, [], _∷_, _++_, map}
 use mathlib.Core.Path.{_≡_}
@@ -15,32 +16,30 @@ use Rattle.record.specs.declared.codec.Decoded.the-variants.{Accepted}
 use Rattle.history.specs.Call.{Call, reset, write, read, vector, run, report, recordAfter, finalRecord, Passable, usartOf, isRun}
 use Rattle.history.specs.Sending.{txdBy}
 
--- the serial calls as the serial unit has them (a serial register written or read, vector 0, and the clocks of the done runs, each with its
--- level of RxD), the resets and the reports
+-- the serial calls as the serial unit has them (a serial register written or read, vector 0, and the clocks of the done
+-- runs, each with its level of RxD), and the resets
 pub data Serial : Type 0 where
   event : Event → Serial
   resets : Serial
-  reports : Serial
 
--- the serial part of a call: of SPI registers, of other addresses and of other vectors there is none
+-- the serial part of a call: of SPI registers, of other addresses, of other vectors and of a report there is none
 abbrev pub serialPart : List ℕ → Call → List Serial
 serialPart s reset = resets ∷ []
 serialPart s (write a v) = map event (writesAt (placeOf a) v)
 serialPart s (read a) = map event (readsAt (placeOf a))
 serialPart s (vector n) = map event (vectorsAt n)
 serialPart s (run ls os) = map event (pick (isRun s ls os) (clocksOf ls) [])
-serialPart s report = reports ∷ []
+serialPart s report = []
 
 abbrev pub serialParts : List ℕ → List Call → List Serial
 serialParts s [] = []
 serialParts s (c ∷ cs) = serialPart s c ++ serialParts (recordAfter s c) cs
 
--- what the serial side is answered: a number, a number and a read's value, TxD and its driven mark after a clock, request bits 0 to 2
+-- what the serial side is answered: a number, a number and a read's value, TxD and its driven mark after a clock
 pub data Answer : Type 0 where
   number : ℕ → Answer
   value : ℕ → ℕ → Answer
   txd : ℕ → Answer
-  requests : ℕ → Answer
 
 abbrev pub serialAnswer : List ℕ → Call → List Answer
 serialAnswer s reset = number (resetAnswer s) ∷ []
@@ -48,14 +47,18 @@ serialAnswer s (write a v) = pick (isSerial (placeOf a)) (number (writeAnswer s 
 serialAnswer s (read a) = pick (isSerial (placeOf a)) (value (readAnswer s a) (readValue s a) ∷ []) []
 serialAnswer s (vector n) = pick (eqb n 0) (number (vectorAnswer s n) ∷ []) []
 serialAnswer s (run ls os) = map txd (txdBy s (run ls os))
-serialAnswer s report = requests (requestsValue s % 8) ∷ []
+serialAnswer s report = []
 
 abbrev pub serialAnswers : List ℕ → List Call → List Answer
 serialAnswers s [] = []
 serialAnswers s (c ∷ cs) = serialAnswer s c ++ serialAnswers (recordAfter s c) cs
 
--- two histories from one serial device, with the same serial calls and resets in order and the same clocks and RxD levels between them, however
--- split into runs; what else is in them, and whose SPI is in which state, is free
+-- request bits 0 to 2, as a report on the record gives them
+abbrev pub requestBits : List ℕ → ℕ
+requestBits s = requestsValue s % 8
+
+-- two histories from one serial device, with the same serial calls and resets in order and the same clocks and RxD levels
+-- between them, however split into runs; what else is in them, reports too, and whose SPI is in which state, is free
 pub record Alike (d e : Device) (s t : List ℕ) (cs ds : List Call) : Type 0 where
   pub first : decodeOf s ≡ Accepted d
   pub second : decodeOf t ≡ Accepted e
@@ -64,7 +67,8 @@ pub record Alike (d e : Device) (s t : List ℕ) (cs ds : List Call) : Type 0 wh
   pub passableToo : Passable ds
   pub same : serialParts s cs ≡ serialParts t ds
 
--- they agree on all serial answers, TxD and request bits 0 to 2, and end as one serial device
+-- they agree on all serial answers, TxD and, in a report after them, request bits 0 to 2, and end as one serial device
 pub record Agree (s t : List ℕ) (cs ds : List Call) : Type 0 where
   pub answers : serialAnswers s cs ≡ serialAnswers t ds
+  pub requests : requestBits (finalRecord s cs) ≡ requestBits (finalRecord t ds)
   pub final : usartOf (finalRecord s cs) ≡ usartOf (finalRecord t ds)
