@@ -1,4 +1,4 @@
-.PHONY: demo test compare bench
+.PHONY: demo test compare bench refute
 
 # Builds the archive and the rig in examples/, plays both transfers and writes the waveform.
 demo:
@@ -17,3 +17,7 @@ compare:
 # Time of a clock against the independent model's.
 bench:
 	@bash bench/run.sh
+
+# The negation of a statement, proved of each wrong program that refutations/ has: make refute NAME=lazy_sender for one.
+refute:
+	@bash scripts/refute.sh $(NAME)

@@ -84,12 +84,14 @@ refute() { # NAME
     cp -R "$top/crates/$crate" "$work/crates/$crate"
 }
 
-# The crates that no edit touches are proved once, or taken from the repository's own last run.
-mkdir -p "$work"
+# The crates that no edit touches are taken from the repository's own last run where they are as they were then, and else proved once.
+mkdir -p "$work/target"
 rm -rf "$work/crates"
 cp -R crates crates.txt "$work/"
 rm -rf "$work"/crates/*/must-fail
-[ -d "$work/target" ] || { mkdir "$work/target" && for d in rlib stamp; do [ ! -d target/$d ] || cp -R target/$d "$work/target/"; done; }
+for d in rlib stamp; do
+    [ ! -d target/$d ] || { rm -rf "$work/target/$d" && cp -R target/$d "$work/target/"; }
+done
 
 [ $# -gt 0 ] || set -- $(cd refutations && ls ./*.refutation | sed 's|^\./||; s|\.refutation$||')
 failed=0

@@ -203,13 +203,21 @@ said="$files files and $names names of docs/RECORD.md"
 check_text docs/CLAIMS.md 200
 said="$files files and $names names of docs/CLAIMS.md, $said"
 
-# What refuses a wrong program is claimed somewhere: each must-fail edit and each host test.
+# What refuses or refutes a wrong program is claimed somewhere: each must-fail edit, refutation and host test.
 awk -F '\t' '$2 == "path" { print $3 }' "$scratch/read" >"$scratch/named"
-for file in crates/*/must-fail/*.edit tests/host/*.sh; do
+for file in crates/*/must-fail/*.edit refutations/*.refutation tests/host/*.sh; do
     if ! grep -qxF -e "$file" "$scratch/named"; then
         echo "docs/CLAIMS.md: $file is not named in it"
         failed=1
     fi
 done
+# The refutations are proved outside the gate; that each has its edit is seen here.
+for file in refutations/*.refutation; do
+    edit=$(awk '/^crate: / { crate = $2 } /^edit: / { edit = $2 } END { print "crates/" crate "/must-fail/" edit ".edit" }' "$file")
+    if [ ! -f "$edit" ]; then
+        echo "$file: there is no $edit"
+        failed=1
+    fi
+done
 [ $failed = 0 ] || exit 1
-echo "claims: $said are where they say; every must-fail edit and host test is named"
+echo "claims: $said are where they say; every must-fail edit, refutation and host test is named"
