@@ -1,5 +1,6 @@
+pub mod ByteLaws
 pub mod RegisterLaws
 pub mod OutputLaws
-pub mod ValidLaws
 pub mod SerialLaws
+pub mod ValidLaws
 pub mod RunLaws

@@ -2,6 +2,7 @@ pub mod Answer
 pub mod Address
 pub mod Unit
 pub mod Output
+pub mod Bytes
 pub mod Register
 pub mod Run
 pub mod Serial

@@ -34,6 +34,11 @@ resetIn Nowhere = 0
 abbrev pub resetAt : ℕ → ℕ
 resetAt a = resetIn (placeOf a)
 
+-- after reset UCSR0A is 0x20, UCSR0C 0x06, the rest 0: that reads answer this is `reset-reads`, and that `resetAt` is
+-- this `reset-values` in proofs/ByteLaws.antt
+abbrev pub resetReads : ℕ → ℕ
+resetReads a = pick (eqb a 0xC0) 0x20 (pick (eqb a 0xC2) 0x06 0)
+
 abbrev pub serialWritten : Device → SerialWritten → Written
 serialWritten d (SerialDone u) = Done (withUsart d u)
 serialWritten d (SerialRefused r) = Refused (ofSerial r)

@@ -48,7 +48,7 @@ returns-10 c = sym (ap placeOf (c .if10 .taken))
 
 returns-11 : tie.Need-returns-11
 unfolding placeOf
-returns-11 c = rw (ne-eqb _ 192 (c .before .before .before .before .before .before .before .before .before .if1 .left), ne-eqb _ 193 (c .before .before .before .before .before .before .before .before .if2 .left), ne-eqb _ 194 (c .before .before .before .before .before .before .before .if3 .left), ne-eqb _ 196 (c .before .before .before .before .before .before .if4 .left), ne-eqb _ 197 (c .before .before .before .before .before .if5 .left), ne-eqb _ 198 (c .before .before .before .before .if6 .left), ne-eqb _ 76 (c .before .before .before .if7 .left), ne-eqb _ 77 (c .before .before .if8 .left), ne-eqb _ 78 (c .before .if9 .left), ne-eqb _ 36 (c .if10 .left))
+returns-11 c = rw (ne-eqb _ _ (c .before .before .before .before .before .before .before .before .before .if1 .left), ne-eqb _ _ (c .before .before .before .before .before .before .before .before .if2 .left), ne-eqb _ _ (c .before .before .before .before .before .before .before .if3 .left), ne-eqb _ _ (c .before .before .before .before .before .before .if4 .left), ne-eqb _ _ (c .before .before .before .before .before .if5 .left), ne-eqb _ _ (c .before .before .before .before .if6 .left), ne-eqb _ _ (c .before .before .before .if7 .left), ne-eqb _ _ (c .before .before .if8 .left), ne-eqb _ _ (c .before .if9 .left), ne-eqb _ _ (c .if10 .left))
 
 pub of-spec : {M : Type 1} → statement M
 of-spec =
