@@ -4,6 +4,7 @@ use mathlib.Core.Bool.{Bool}
 use mathlib.Core.Path.{_≡_, refl}
 use native.Mathlib.Omega.{arith}
 use lib.Dec.{lit≤}
+use Rattle.choice.specs.Pick.{digit}
 use Rattle.choice.proofs.Digits.{digit-le}
 use Rattle.choice.proofs.Picks.{pick-ind}
 use Rattle.spi.specs.Control.{isEnabled, isMaster, drives}
@@ -48,3 +49,7 @@ output-bits s ss =
 
 pub requests-le : (s : Spi) → requestsOf s ≤ 8
 requests-le s = let a = digit-le (isRequested s) in omega arith
+
+-- SPIF with SPIE is bit 3 of the report, and the SPI's only one
+pub request-bit : (s : Spi) → (requestsOf s % 8 ≡ 0) × (requestsOf s / 8 ≡ digit (isRequested s))
+request-bit s = (omega arith, omega arith)
