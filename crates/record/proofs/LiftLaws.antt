@@ -1,11 +1,14 @@
 -- A valid device is what the bytes of its image say. Assumes nothing.
 use Prim.Native.Nat.{_^_, _<_}
-use mathlib.Core.Bool.{Bool}
-use mathlib.Core.Path.{_≡_, ap, ap₂, _∙_}
+use mathlib.Core.Bool.{Bool, true, false}
+use mathlib.Core.Path.{_≡_, refl, ap, ap₂, _∙_}
 use native.Mathlib.Omega.{arith}
 use Rattle.frame.specs.Format.{dataBits, wordBits}
+use Rattle.frame.specs.declared.format.Size.the-variants.{Eight}
+use Rattle.frame.specs.declared.format.Parity.the-variants.{Off}
 use Rattle.frame.specs.declared.format.Format.{Format}
 use Rattle.usart.specs.Queue.{oldestOf}
+use Rattle.usart.specs.Unit.{resetUsart}
 use Rattle.usart.specs.Valid.{ValidBuffer, ValidShifter, ValidSampler, ValidPlaces}
 use Rattle.usart.specs.declared.sender.Buffer.{Buffer}
 use Rattle.usart.specs.declared.sender.Buffer.the-variants.{Vacant, Full}
@@ -15,12 +18,32 @@ use Rattle.usart.specs.declared.sampler.Sampler.{Sampler}
 use Rattle.usart.specs.declared.sampler.Sampler.the-variants.{Idle, Receiving}
 use Rattle.usart.specs.declared.queue.Places.{Places}
 use Rattle.usart.specs.declared.queue.Places.the-variants.{Empty, One, Two}
+use Rattle.spi.specs.Unit.{resetSpi}
 use Rattle.device.specs.Valid.{Valid}
 use Rattle.device.specs.declared.unit.Device.{Device}
 use Rattle.record.specs.Parts.{dataIn, bufferOf, transmissionIn, shifterOf, receptionIn, samplerOf, secondIn, placesOf}
 use Rattle.record.specs.Layout.{imageOf}
 use Rattle.record.specs.Lift.{baudAt, formatWith, formatAt, controlAt, bufferAt, transmissionAt, shifterAt, senderWith, senderAt, receptionAt, samplerAt, oldestAt, secondAt, queueWith, queueAt, usartAt, spiControlAt, flagsAt, pinsAt, spiAt, deviceAt}
 use Rattle.record.proofs.CodeLaws.{data-limit, word-limit, word-parts, flag-bit, size-again, parity-again, flag-again, buffer-again, shifter-again, sampler-again, places-again}
+
+-- a closed case first: the two flags of the format, each from its own byte
+abbrev formatted : Bool → Bool → Device
+formatted usbs u2x = record {
+  usart = record {
+    baud = resetUsart .baud;
+    format = record { size = Eight; parity = Off; usbs = usbs; u2x = u2x };
+    control = resetUsart .control;
+    sender = resetUsart .sender;
+    receiver = resetUsart .receiver;
+  };
+  spi = resetSpi;
+}
+
+flags-apart : (usbs u2x : Bool) → let f = formatAt (imageOf (formatted usbs u2x)) in (f .usbs ≡ usbs) × (f .u2x ≡ u2x)
+flags-apart true true = (refl, refl)
+flags-apart true false = (refl, refl)
+flags-apart false true = (refl, refl)
+flags-apart false false = (refl, refl)
 
 -- the words of valid parts
 

@@ -2,11 +2,11 @@
 -- byte by byte, in the record's order; each kind of byte has one law, and so has each part that has cases. Assumes nothing.
 use Prim.Native.Nat.{ℕ, zero, suc, _+_, _*_, _%_, _<_}
 use mathlib.Core.Bool.{Bool, true, false, not, _&&_, _||_}
-use mathlib.Core.List.{List, [], _∷_}
+use mathlib.Core.List.{List, [], _∷_, _++_}
 use mathlib.Core.Path.{_≡_, refl, sym, ap, subst, _∙_}
 use native.Mathlib.Omega.{arith}
 use lib.Dec.{eqb, ltb}
-use lib.ListN.{length, getD, drop}
+use lib.ListN.{length, getD, drop, set}
 use borrow.Author.Tests.{eqb-true, eqb-false, ltb-true, ltb-false, eq-eqb, ne-eqb, lt-ltb, le-ltb}
 use Rattle.choice.specs.Pick.{pick}
 use Rattle.choice.proofs.Picks.{split}
@@ -17,12 +17,46 @@ use Rattle.usart.specs.Queue.{noFrame, oldestOf}
 use Rattle.usart.specs.declared.sender.Transmission.{Transmission}
 use Rattle.usart.specs.declared.sampler.Reception.{Reception}
 use Rattle.usart.specs.declared.queue.Frame.{Frame}
+use Rattle.device.specs.Unit.{resetDevice}
 use Rattle.record.specs.Codes.{knownSize, flagCode, flagOf}
 use Rattle.record.specs.Parts.{dataIn, bufferOf, transmissionIn, shifterOf, rememberedIn, receptionIn, samplerOf, heldCount, secondIn, placesOf}
 use Rattle.record.specs.Layout.{low, high, bit, imageOf}
 use Rattle.record.specs.Lift.{byteAt, wordAt, setAt, transmissionAt, oldestAt, secondAt, placesAt, deviceAt}
 use Rattle.record.specs.Shown.{isFlag, isZero, isSizeCode, isUpm, isFlagCode, settingsShown, senderShown, samplerShown, queueShown, usartShown, spiShown, isShown}
 use Rattle.record.specs.Codec.{eqList}
+
+-- Closed cases first, byte by byte. The record of a device after reset is shown; neither sender nor receiver has a frame
+-- there, so that their bytes are not in use.
+abbrev blank : List ℕ
+blank = imageOf resetDevice
+
+blank-shown : isShown blank ≡ true
+unfolding isShown
+blank-shown = refl
+
+-- the places, from i on, at which a stray value, put alone into that record, passes a test
+abbrev passing : (List ℕ → Bool) → ℕ → List ℕ → List ℕ
+passing test i [] = []
+passing test i (x ∷ xs) = pick (test (set blank i x)) (i ∷ []) [] ++ passing test (i + 1) xs
+
+-- there are none: of a flag 2 is stray, of a byte that is not in use 1, of a code or a count the least that none has
+settings-strays : passing settingsShown 4 (4 ∷ 1 ∷ 2 ∷ 2 ∷ 2 ∷ 2 ∷ 2 ∷ 2 ∷ 2 ∷ 2 ∷ 2 ∷ []) ≡ []
+settings-strays = refl
+
+sender-strays : passing senderShown 15 (2 ∷ 1 ∷ 1 ∷ 2 ∷ 1 ∷ 1 ∷ 1 ∷ 1 ∷ []) ≡ []
+sender-strays = refl
+
+sampler-strays : passing samplerShown 23 (2 ∷ 2 ∷ 1 ∷ 1 ∷ 1 ∷ 1 ∷ 1 ∷ 1 ∷ []) ≡ []
+sampler-strays = refl
+
+queue-strays : passing queueShown 31 (3 ∷ 2 ∷ 1 ∷ 1 ∷ 1 ∷ 1 ∷ 1 ∷ 1 ∷ 1 ∷ 1 ∷ 1 ∷ 1 ∷ []) ≡ []
+queue-strays = refl
+
+usart-strays : passing usartShown 43 (1 ∷ 1 ∷ 1 ∷ 1 ∷ 1 ∷ []) ≡ []
+usart-strays = refl
+
+spi-strays : passing spiShown 49 (2 ∷ []) ++ passing spiShown 55 (3 ∷ 3 ∷ 2 ∷ 2 ∷ 2 ∷ 1 ∷ 1 ∷ 1 ∷ 1 ∷ []) ≡ []
+spi-strays = refl
 
 -- a property of a number that is tested to be k, from that of k
 at : (P : ℕ → Type 0) (x k : ℕ) → P k → eqb x k ≡ true → P x
