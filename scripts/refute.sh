@@ -1,10 +1,11 @@
 #!/usr/bin/env bash
-# Shows that wrong programs are refuted, and not only refused: in a copy of its crate with a must-fail edit applied, a statement's negation is
-# proved of a closed list. Runs every refutations/NAME.refutation, or those named.
+# Shows that wrong programs are refuted, and not only refused: in a copy of its crate with a must-fail edit applied, a
+# statement's negation is proved of a closed list. Runs every refutations/NAME.refutation, or those named.
 #
-# A refutation has, after some words of its own: 'crate:' and 'edit:' (crates/CRATE/must-fail/EDIT.edit); 'laws:', the files of laws that the
-# copy keeps, all others being left out, since the wrong program breaks them; 'without:', what else is left out; and after 'proof:' a file of
-# laws, proofs/Refutation.antt. The copy is then proved whole by rt: the edited functions meet their contracts, and the negation holds.
+# A refutation has, after some words of its own: 'crate:' and 'edit:' (crates/CRATE/must-fail/EDIT.edit); 'laws:', the
+# files of laws that the copy keeps, all others being left out, since the wrong program breaks them; 'without:', what
+# else is left out; and after 'proof:' a file of laws, proofs/Refutation.antt. The copy is then proved whole by rt: the
+# edited functions meet their contracts, and the negation holds.
 set -u -o pipefail
 cd "$(dirname "$0")/.."
 top=$PWD
@@ -84,7 +85,8 @@ refute() { # NAME
     cp -R "$top/crates/$crate" "$work/crates/$crate"
 }
 
-# The crates that no edit touches are taken from the repository's own last run where they are as they were then, and else proved once.
+# The crates that no edit touches are taken from the repository's own last run where they are as they were then, and
+# else proved once.
 mkdir -p "$work/target"
 rm -rf "$work/crates"
 cp -R crates crates.txt "$work/"

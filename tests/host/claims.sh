@@ -213,7 +213,7 @@ for file in crates/*/must-fail/*.edit refutations/*.refutation tests/host/*.sh; 
 done
 # The refutations are proved outside the gate; that each has its edit is seen here.
 for file in refutations/*.refutation; do
-    edit=$(awk '/^crate: / { crate = $2 } /^edit: / { edit = $2 } END { print "crates/" crate "/must-fail/" edit ".edit" }' "$file")
+    edit=crates/$(sed -n 's/^crate: //p' "$file")/must-fail/$(sed -n 's/^edit: //p' "$file").edit
     if [ ! -f "$edit" ]; then
         echo "$file: there is no $edit"
         failed=1

@@ -1,4 +1,5 @@
--- The sender's line, for every list of calls on a record: what its statement says of calls, said of the serial unit's events, and the theorem.
+-- The sender's line, for every list of calls on a record: what its statement says of calls, said of the serial unit's
+-- events, and the theorem.
 use Prim.Native.Nat.{ℕ, suc, _+_, _*_}
 use mathlib.Core.Bool.{Bool, true, false}
 use mathlib.Core.List.{List, [], _∷_, _++_, map, append-nil}

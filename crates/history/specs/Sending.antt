@@ -20,7 +20,8 @@ use Rattle.record.specs.declared.codec.Decoded.the-variants.{Accepted}
 use Rattle.warpmagpie.specs.Calls.{readValue, outputsAfterRun}
 use Rattle.history.specs.Call.{Call, reset, write, read, vector, run, report, recordAfter, finalRecord, Passable, usartOf, OnlyData, isRun}
 
--- enabled, nothing in shift at first; the buffer may hold a frame; any baud counter; no serial register but UDR0 written, and no reset
+-- enabled, nothing in shift at first; the buffer may hold a frame; any baud counter; no serial register but UDR0
+-- written, and no reset
 pub record MaySend (d : Device) (s : List ℕ) (cs : List Call) : Type 0 where
   pub valid : decodeOf s ≡ Accepted d
   pub enabled : d .usart .control .txen ≡ true
@@ -53,14 +54,15 @@ abbrev pub txdOf : List ℕ → List Call → List ℕ
 txdOf s [] = []
 txdOf s (c ∷ cs) = txdBy s c ++ txdOf (recordAfter s c) cs
 
--- the data that the buffer takes, in order, the first clock of the list being j: what is written before a run is found by its first clock
+-- the data that the buffer takes, in order, the first clock of the list being j: what is written before a run is found
+-- by its first clock
 abbrev pub takenOf : ℕ → List ℕ → List Call → List Taken
 takenOf j s [] = []
 takenOf j s (c ∷ cs) = map (takenAt j) (acceptedBy s c) ++ takenOf (j + length (txdBy s c)) (recordAfter s c) cs
 
--- TxD is a line with Q = 1 and P = S·(UBRR + 1), of exactly the frames that the buffer held at first or took, in order, each begun at the first
--- tick that finds it in the buffer and the shifter empty (`framesOf`). The list's end may cut the last one begun, or leave in the buffer one whose
--- tick has not come, and no other
+-- TxD is a line with Q = 1 and P = S·(UBRR + 1), of exactly the frames that the buffer held at first or took, in order,
+-- each begun at the first tick that finds it in the buffer and the shifter empty (`framesOf`). The list's end may cut
+-- the last one begun, or leave in the buffer one whose tick has not come, and no other
 pub record Sends (d : Device) (s : List ℕ) (cs : List Call) : Type 0 where
   pub fits : Fits (d .usart .format) (framesOf (d .usart) (takenOf 0 s cs))
   pub spaced : Spaced (wordBits (d .usart .format)) (bitClocks (d .usart)) 1 (framesOf (d .usart) (takenOf 0 s cs))

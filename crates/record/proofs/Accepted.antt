@@ -1,5 +1,5 @@
--- The record of a device after reset is accepted as that device, by computing alone and before any law is used: a wrong program that changes
--- a definition is refused here first.
+-- The record of a device after reset is accepted as that device, by computing alone and before any law is used: a wrong
+-- program that changes a definition is refused here first.
 use mathlib.Core.Path.{_≡_, refl}
 use Rattle.usart.specs.Settings.{sizeOf, parityOf}
 use Rattle.spi.specs.Control.{numberOf}

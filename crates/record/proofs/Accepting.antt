@@ -1,4 +1,5 @@
--- What is accepted and what is refused, by the length, the image of what was lifted and the ranges, whatever lifting, image and ranges are.
+-- What is accepted and what is refused, by the length, the image of what was lifted and the ranges, whatever lifting,
+-- image and ranges are.
 use Prim.Native.Nat.{ℕ}
 use mathlib.Core.Bool.{Bool, true, false, _&&_}
 use mathlib.Core.List.{List}

@@ -1,5 +1,5 @@
--- Accepted and image, both ways: the image of a device is accepted as that device, and what is accepted is the image of its device, whatever
--- lifting, image and ranges are.
+-- Accepted and image, both ways: the image of a device is accepted as that device, and what is accepted is the image of
+-- its device, whatever lifting, image and ranges are.
 use Prim.Native.Nat.{ℕ}
 use mathlib.Core.Bool.{Bool, true, false, _&&_}
 use mathlib.Core.List.{List}

@@ -1,6 +1,6 @@
--- What the statements say of closed lists, by computing alone and before any law is used: M8, demand 3 of two frames of which the first is
--- read before the second completes, and the sender's line of two bytes. A wrong program that changes a definition is refused here first, by
--- the value that it gets wrong.
+-- What the statements say of closed lists, by computing alone and before any law is used: M8, demand 3 of two frames of
+-- which the first is read before the second completes, and the sender's line of two bytes. A wrong program that changes
+-- a definition is refused here first, by the value that it gets wrong.
 use Prim.Native.Nat.{ℕ}
 use mathlib.Core.List.{map}
 use mathlib.Core.Path.{_≡_, refl}

@@ -1,5 +1,5 @@
--- Closed units and lists of events. The cases (`Cases.antt`), the witnesses (`Witness.antt`) and the refutations of wrong programs
--- (refutations/) are about these.
+-- Closed units and lists of events. The cases (`Cases.antt`), the witnesses (`Witness.antt`) and the refutations of
+-- wrong programs (refutations/) are about these.
 use Prim.Native.Nat.{ℕ, zero, suc}
 use mathlib.Core.Bool.{Bool, true, false}
 use mathlib.Core.List.{List, [], _∷_}
@@ -36,14 +36,14 @@ unfoldable pub run : ℕ → ℕ → List Event → List Event
 run j zero es = es
 run j (suc n) es = clock (level j) ∷ run (suc j) n es
 
--- in mid-frame: a refused baud setting, a refused mode, a look at UCSR0A, a byte to send, a vector without request; the first frame is read
--- while the second is on the line, before it completes
+-- in mid-frame: a refused baud setting, a refused mode, a look at UCSR0A, a byte to send, a vector without request; the
+-- first frame is read while the second is on the line, before it completes
 unfoldable pub received : List Event
 received =
     run 0 20 (write Ubrr0l 7 ∷ write Ucsr0c 192 ∷ read Ucsr0a ∷ write Udr0 85 ∷ vector ∷ read Udr0 ∷ run 20 60 (read Udr0 ∷ run 80 60 []))
 
--- a sender: 5 data bits, two stop bits, double speed, UBRR 1, so that a bit is 16 clocks and a frame 128. The buffer holds 21, and the first
--- tick is at clock 1
+-- a sender: 5 data bits, two stop bits, double speed, UBRR 1, so that a bit is 16 clocks and a frame 128. The buffer
+-- holds 21, and the first tick is at clock 1
 unfoldable pub loaded : Usart
 loaded = record {
   baud = record { ubrr = 1; left = record { 0 = 1 } };

@@ -132,7 +132,8 @@ module _ (first : Usart) where
   abbrev Frames : ℕ → List Taken → List Sent
   Frames lo ts = framesFrom first lo ts
 
-  -- the events es, the first clock of which is j, make the frames fs: with the one on the line now they are all that TxD shows
+  -- the events es, the first clock of which is j, make the frames fs: with the one on the line now they are all that
+  -- TxD shows
   record Makes (cur fs : List Sent) (j : ℕ) (u : Usart) (es : List Event) : Type 0 where
     fits : Fits f fs
     drives : Drives (Line (cur ++ fs)) j (outputsOf u es)

@@ -1,5 +1,5 @@
--- The ticks of the baud clock by number: where the next one is, and that `tickFrom` is the first clock from another on at which the baud clock
--- ticks.
+-- The ticks of the baud clock by number: where the next one is, and that `tickFrom` is the first clock from another on
+-- at which the baud clock ticks.
 use mathlib.Core.Path.{_≡_, refl, ap}
 use mathlib.Core.Bool.{true, false}
 use mathlib.Core.List.{[], _∷_}
@@ -21,7 +21,8 @@ module _ (b : Baud) where
   abbrev M : ℕ
   M = b .ubrr + 1
 
-  -- with n ticks given and k in the counter before clock j the next tick is at clock j + k; after a tick the counter is not above UBRR
+  -- with n ticks given and k in the counter before clock j the next tick is at clock j + k; after a tick the counter is
+  -- not above UBRR
   pub record Phase (j k : ℕ) : Type 0 where
     pub given : ℕ
     pub next : j + k ≡ b .left .0 + given * M
@@ -114,8 +115,8 @@ module _ (b : Baud) where
       let f : tickFrom b i ≤ b .left .0 + p .given * M = tick-first i (p .given) (omega (arith, p .next)) in
       omega (arith, p .next))
 
--- UBRR 2, and the counter 7 at first; 5 data bits, 2 stop bits and double speed, so that a frame is 192 clocks. 21 is in the buffer at first, 10 is taken
--- while it is on the line, and 3 when the shifter has been at rest
+-- UBRR 2, and the counter 7 at first; 5 data bits, 2 stop bits and double speed, so that a frame is 192 clocks. 21 is
+-- in the buffer at first, 10 is taken while it is on the line, and 3 when the shifter has been at rest
 example : framesOf (record {
   baud = record { ubrr = 2; left = record { 0 = 7 } };
   format = record { size = Five; parity = Off; usbs = true; u2x = true };

@@ -1,6 +1,6 @@
--- The line theorems are not empty: closed lists that meet every premise. Demand 3's has two frames, at unequal crystals, with reads, a write of
--- UDR0, refused accesses and a vector among the clocks; the sender's has a byte in the buffer at first and one that is written. What comes of
--- them is computed in `Cases.antt`.
+-- The line theorems are not empty: closed lists that meet every premise. Demand 3's has two frames, at unequal
+-- crystals, with reads, a write of UDR0, refused accesses and a vector among the clocks; the sender's has a byte in the
+-- buffer at first and one that is written. What comes of them is computed in `Cases.antt`.
 use mathlib.Core.Path.{_≡_, refl}
 use Prim.Native.Nat.{ℕ}
 use native.Mathlib.Omega.{arith}

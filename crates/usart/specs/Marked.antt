@@ -1,5 +1,5 @@
--- M8 of document 01 at the serial unit: UBRR 0, 8 bits, no parity, 1 stop, one byte written: start bit on clock 1, UDRE back on clock 1, TXC
--- on clock 161.
+-- M8 of document 01 at the serial unit: UBRR 0, 8 bits, no parity, 1 stop, one byte written: start bit on clock 1, UDRE
+-- back on clock 1, TXC on clock 161.
 use Prim.Native.Nat.{ℕ, zero, suc}
 use mathlib.Core.Bool.{true}
 use mathlib.Core.List.{List, [], _∷_, _++_}

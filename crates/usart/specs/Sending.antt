@@ -47,7 +47,8 @@ pub record Taken : Type 0 where
 abbrev pub takenAt : ℕ → ℕ → Taken
 takenAt j d = record { from = j; «data» = d }
 
--- the data that the buffer takes, in order, the first clock of the list being j: what is written before a clock is found by it
+-- the data that the buffer takes, in order, the first clock of the list being j: what is written before a clock is
+-- found by it
 abbrev pub takenOf : ℕ → Usart → List Event → List Taken
 takenOf j u [] = []
 takenOf j u (clock rxd ∷ es) = takenOf (suc j) (clockOf u rxd) es
@@ -55,7 +56,8 @@ takenOf j u (write r v ∷ es) = map (takenAt j) (acceptedBy u (write r v)) ++ t
 takenOf j u (read r ∷ es) = takenOf j (nextOf u (read r)) es
 takenOf j u (vector ∷ es) = takenOf j (nextOf u vector) es
 
--- the first tick at clock j or later: ticks are UBRR + 1 clocks apart, the first when the counter, as it is at first, has run down
+-- the first tick at clock j or later: ticks are UBRR + 1 clocks apart, the first when the counter, as it is at first,
+-- has run down
 unfoldable pub tickFrom : Baud → ℕ → ℕ
 tickFrom b j = b .left .0 + (j - b .left .0 + b .ubrr) / (b .ubrr + 1) * (b .ubrr + 1)
 
@@ -67,8 +69,8 @@ frameClocks u = (lastBit (u .format) + 1) * bitClocks u
 abbrev pub laterOf : ℕ → ℕ → ℕ
 laterOf i j = i + (j - i)
 
--- each frame begins at the first tick that finds it in the buffer and the shifter empty: from clock i on, then from the end of the last stop bit of
--- the frame before
+-- each frame begins at the first tick that finds it in the buffer and the shifter empty: from clock i on, then from the
+-- end of the last stop bit of the frame before
 abbrev pub framesFrom : Usart → ℕ → List Taken → List Sent
 framesFrom u i [] = []
 framesFrom u i (t ∷ ts) =
@@ -100,8 +102,9 @@ Drives w j (o ∷ os) = (o ≡ digit (w j) + 16) × Drives w (suc j) os
 abbrev pub dataIn : Sent → ℕ
 dataIn s = s .«data»
 
--- TxD is a line with Q = 1 and P = S·(UBRR + 1), of exactly the frames that the buffer held at first or took, in order, each begun at its tick. The
--- list's end may cut the last one begun, or leave in the buffer one whose tick has not come, and no other
+-- TxD is a line with Q = 1 and P = S·(UBRR + 1), of exactly the frames that the buffer held at first or took, in order,
+-- each begun at its tick. The list's end may cut the last one begun, or leave in the buffer one whose tick has not
+-- come, and no other
 pub record Sends (u : Usart) (es : List Event) : Type 0 where
   pub fits : Fits (u .format) (framesOf u (takenOf 0 u es))
   pub spaced : Spaced (wordBits (u .format)) (bitClocks u) 1 (framesOf u (takenOf 0 u es))
