@@ -1,7 +1,7 @@
 -- What a call answers and leaves, by what its record decodes to.
 use Prim.Native.Nat.{ℕ}
 use mathlib.Core.Bool.{Bool, true, false}
-use mathlib.Core.List.{List}
+use mathlib.Core.List.{List, [], _∷_}
 use mathlib.Core.Path.{_≡_, refl, sym, ap, ap₂, _∙_}
 use lib.Dec.{eqb}
 use lib.ListN.{length}
@@ -23,6 +23,11 @@ use Rattle.record.specs.declared.codec.Decoded.the-variants.{Accepted, Refused 
 use Rattle.record.proofs.Round.{decode-length, stored}
 use Rattle.warpmagpie.specs.Calls.{kept, shown, resetOn, resetAnswer, recordAfterReset, writeOn, writeAnswer, recordAfterWrite, readOn, keptByRead, readAnswer, readValue, recordAfterRead, vectorOn, vectorAnswer, recordAfterVector, runOn, outputsOn, runAnswer, recordAfterRun, outputsAfterRun, requestsAnswerOn, requestsValueOn, requestsAnswer, requestsValue}
 use Rattle.warpmagpie.specs.PutBack.{putBack, putBackRead}
+
+-- an output slice that is too short and a level byte with bit 5 set: of 6 and 7, 6 is answered
+pub six-before-seven : (d : Device) → answerOf (runOn (Accepted d) (32 ∷ []) []) ≡ 6
+unfolding runOn areLevels
+six-before-seven d = refl
 
 -- on 64 bytes, what is put back is what is kept
 pub put-back : (s : List ℕ) (w : Written) → length s ≡ 64 → putBack w s ≡ kept s w
@@ -136,10 +141,12 @@ module _ (s : List ℕ) {t : Decoded} (p : t ≡ decodeOf s) (q : t ≡ NoDevice
   unfolding runOn outputsOn
   run-refused ls os = rw none (r, (refl, refl))
 
-pub reset-refused : (s : List ℕ) {n : ℕ} → (length s ≡ 64 → ⊥) → n ≡ numberOf Record → (n ≡ resetAnswer s) × (s ≡ recordAfterReset s)
+-- k is what a reset compares the length with
+pub reset-refused : (s : List ℕ) {k n : ℕ} → (length s ≡ k → ⊥) → k ≡ 64 → n ≡ numberOf Record → (n ≡ resetAnswer s) × (s ≡ recordAfterReset s)
 unfolding resetOn
-reset-refused s h r = rw (ne-eqb (length s) 64 h) (r, refl)
+reset-refused s h e r = rw (ne-eqb (length s) 64 (λ z. h (z ∙ sym e))) (r, refl)
 
-pub reset-done : (s : List ℕ) {s' : List ℕ} {d : Device} → length s ≡ 64 → d ≡ resetDevice → s' ≡ storedOf d s → (0 ≡ resetAnswer s) × (s' ≡ recordAfterReset s)
+pub reset-done : (s : List ℕ) {s' : List ℕ} {d : Device} {k : ℕ} → length s ≡ k → k ≡ 64 → d ≡ resetDevice → s' ≡ storedOf d s
+    → (0 ≡ resetAnswer s) × (s' ≡ recordAfterReset s)
 unfolding resetOn
-reset-done s {s'} {d} h hd hs = rw (eq-eqb (length s) 64 h) (refl, hs ∙ stored d s h ∙ ap recordOf hd)
+reset-done s {s'} {d} h e hd hs = rw (eq-eqb (length s) 64 (h ∙ e)) (refl, hs ∙ stored d s (h ∙ e) ∙ ap recordOf hd)

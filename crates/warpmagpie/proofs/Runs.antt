@@ -22,11 +22,21 @@ use Rattle.device.specs.Unit.{rxdIn, levelsIn}
 use Rattle.device.specs.declared.unit.Device.{Device}
 use Rattle.device.proofs.RunLaws.{ran-units, outputs-units, serial-append, serial-outputs-append, counted-ran, counted-outputs}
 
+-- a test against the same limit is the same test
+pub same-limit : (x m n : ℕ) → m ≡ n → ltb x m ≡ ltb x n
+same-limit x m n e = ap (ltb x) e
+
 module _ (ls : List ℕ) (i : ℕ) (h : i < length ls) where
-  pub level-on : (low : Bool) → pick (low && ltb (getD ls i 0) 32) (areLevels (drop (i + 1) ls)) false ≡ pick low (areLevels (drop i ls)) false
+  level-next : (low : Bool) → pick (low && ltb (getD ls i 0) 32) (areLevels (drop (i + 1) ls)) false ≡ pick low (areLevels (drop i ls)) false
   unfolding areLevels
-  level-on true = rw (add-one i, drop-cons ls i 0 h)
-  level-on false = refl
+  level-next true = rw (add-one i, drop-cons ls i 0 h)
+  level-next false = refl
+
+  -- t is what is tested of byte i
+  pub level-on : (low low′ t all : Bool) → low′ ≡ low && t → t ≡ ltb (getD ls i 0) 32 → pick low (areLevels (drop i ls)) false ≡ all
+      → pick low′ (areLevels (drop (i + 1) ls)) false ≡ all
+  level-on low low′ t all e f k =
+      ap (λ (b : Bool). pick b (areLevels (drop (i + 1) ls)) false) (e ∙ ap (λ (x : Bool). low && x) f) ∙ level-next low ∙ k
 
   module _ (u : Usart) {v : Usart} (e : v ≡ serialClock u (rxdIn (getD ls i 0))) where
     pub serial-on : serialRan v (drop (i + 1) ls) ≡ serialRan u (drop i ls)

@@ -1,3 +1,4 @@
+use mathlib.Core.Path.{refl}
 use Rattle.warpmagpie.proofs.Cases.{reset-refused, reset-done}
 use borrow.Author.Needs.{needs}
 use Rattle.warpmagpie.proofs.calls.warpmagpie_reset.Statement.{statement}
@@ -12,7 +13,7 @@ number-requires : tie.Need-number-requires
 number-requires c κs = search needs
 
 returns : tie.Need-returns
-returns c = reset-refused _ (c .before .if1 .taken) (c .number .ensures)
+returns c = reset-refused _ (c .before .if1 .taken) refl (c .number .ensures)
 
 reset-requires : tie.Need-reset-requires
 reset-requires c κs = search needs
@@ -24,7 +25,7 @@ same-length : tie.Need-same-length
 same-length c = search needs
 
 returns-2 : tie.Need-returns-2
-returns-2 c = reset-done _ (c .before .before .before .before .before .if1 .left) (c .before .before .before .before .reset .ensures) (c .before .before .store .ensures)
+returns-2 c = reset-done _ (c .before .before .before .before .before .if1 .left) refl (c .before .before .before .before .reset .ensures) (c .before .before .store .ensures)
 
 pub warpmagpie-reset-spec : {M : Type 1} → statement M
 warpmagpie-reset-spec =

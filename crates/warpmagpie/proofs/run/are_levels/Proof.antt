@@ -7,7 +7,7 @@ use lib.ListN.{length, drop}
 use Rattle.choice.specs.Pick.{pick}
 use Rattle.choice.proofs.Picks.{pick-self}
 use Rattle.device.specs.Run.{areLevels}
-use Rattle.warpmagpie.proofs.Runs.{level-on, none-left}
+use Rattle.warpmagpie.proofs.Runs.{same-limit, level-on, none-left}
 use Rattle.warpmagpie.proofs.run.are_levels.Statement.{statement}
 use Rattle.warpmagpie.proofs.run.are_levels.Tie as tie
 use Rattle.warpmagpie.proofs.run.are_levels.Reads as reads
@@ -36,7 +36,7 @@ loop-again c =
     let at = c .before .before in
     let l = at .before .args .levels .now in
     let h : at .loop .i < length l = omega arith in
-    (omega arith, level-on l (at .loop .i) h (at .loop .low) ∙ at .loop .inv .1)
+    (omega arith, level-on l (at .loop .i) h (at .loop .low) _ _ _ refl (omega (arith, same-limit)) (at .loop .inv .1))
 
 returns : tie.Need-returns Inv-loop μ-loop
 unfolding areLevels

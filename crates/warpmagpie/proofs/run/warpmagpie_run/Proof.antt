@@ -1,4 +1,5 @@
 use mathlib.Core.Path.{sym, _∙_}
+use denote.Ref.{now}
 use Rattle.warpmagpie.proofs.Cases.{run-length, run-level, run-done, run-refused}
 use borrow.Author.Needs.{needs}
 use Rattle.warpmagpie.proofs.run.warpmagpie_run.Statement.{statement}
@@ -51,7 +52,7 @@ same-length-3 : tie.Need-same-length-3
 same-length-3 c = search needs
 
 returns-2 : tie.Need-returns-2
-returns-2 c = run-done _ (c .before .before .before .before .before .before .before .before .before .before .before .before .before .before .decode .ensures) (c .before .before .before .before .before .before .before .before .before .before .before .before .got .given .1) _ _ (c .before .before .before .before .before .before .before .before .before .before .if1 .left) (sym (c .before .before .before .before .before .before .before .before .before .are-levels .ensures) ∙ c .before .before .before .before .before .before .before .before .if2 .taken) (c .before .before .before .before .before .before .clocks .ensures .0) (c .before .before .store .ensures) (c .before .before .before .before .before .before .clocks .ensures .1)
+returns-2 c = run-done _ (c .before .before .before .before .before .before .before .before .before .before .before .before .before .before .decode .ensures) (c .before .before .before .before .before .before .before .before .before .before .before .before .got .given .1) _ (now (c .before .before .before .before .before .before .before .before .before .before .before .before .before .before .before .before .before .before .before .args .outputs)) (c .before .before .before .before .before .before .before .before .before .before .if1 .left) (sym (c .before .before .before .before .before .before .before .before .before .are-levels .ensures) ∙ c .before .before .before .before .before .before .before .before .if2 .taken) (c .before .before .before .before .before .before .clocks .ensures .0) (c .before .before .store .ensures) (c .before .before .before .before .before .before .clocks .ensures .1)
 
 same-length-4 : tie.Need-same-length-4
 same-length-4 c = search needs
