@@ -1,3 +1,4 @@
+pub mod BeforeRead
 pub mod StepLaws
 pub mod ViewLaws
 pub mod ReceivingView
