@@ -60,12 +60,20 @@ others() { # FILE
     done
 }
 
-refute() { # NAME
+# Puts a crate back as it is in the repository, with what the last run there proved of it.
+restore() { # CRATE
+    local p
+    rm -rf "$work/crates/$1" "$work/target/rlib/$1.rlib" "$work/target/stamp/$1"
+    cp -R "$top/crates/$1" "$work/crates/$1"
+    for p in rlib/$1.rlib stamp/$1; do [ ! -e "$top/target/$p" ] || cp -R "$top/target/$p" "$work/target/$p"; done
+}
+
+refute() { # NAME, in a shell of its own
     local file=$top/refutations/$1.refutation crate edit without began=$SECONDS
     crate=$(field crate "$file") crate=${crate% }
     edit=$(field edit "$file") edit=${edit% }
-    rm -rf "$work/crates/$crate"
-    cp -R "$top/crates/$crate" "$work/crates/$crate"
+    trap "restore '$crate'" EXIT
+    restore "$crate"
     cd "$work/crates/$crate" || return 1
     without=$(field without "$file")
     # shellcheck disable=SC2086 # the paths may have wildcards
@@ -81,8 +89,6 @@ refute() { # NAME
         grep -m 5 -E 'error|NOT PROVED' "$work/$1.log"
         return 1
     fi
-    rm -rf "$work/crates/$crate"
-    cp -R "$top/crates/$crate" "$work/crates/$crate"
 }
 
 # The crates that no edit touches are taken from the repository's own last run where they are as they were then, and
