@@ -18,6 +18,6 @@ compare:
 bench:
 	@bash bench/run.sh
 
-# The negation of a statement, proved of each wrong program that refutations/ has: make refute NAME=lazy_sender for one.
+# The negation of a statement, proved of each wrong program that refutations/ has: make refute NAME=wrong_senders for one.
 refute:
 	@bash scripts/refute.sh $(NAME)

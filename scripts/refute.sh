@@ -2,10 +2,11 @@
 # Shows that wrong programs are refuted, and not only refused: in a copy of its crate with a must-fail edit applied, a
 # statement's negation is proved of a closed list. Runs every refutations/NAME.refutation, or those named.
 #
-# A refutation has, after some words of its own: 'crate:' and 'edit:' (crates/CRATE/must-fail/EDIT.edit); 'laws:', the
-# files of laws that the copy keeps, all others being left out, since the wrong program breaks them; 'without:', what
-# else is left out; and after 'proof:' a file of laws, proofs/Refutation.antt. The copy is then proved whole by rt: the
-# edited functions meet their contracts, and the negation holds.
+# A refutation has, after some words of its own: 'crate:' and 'edit:' (crates/CRATE/must-fail/EDIT.edit), where it is
+# of several wrong programs a line for each, which has a copy of its own; 'laws:', the files of laws that the copy keeps,
+# all others being left out, since the wrong program breaks them; 'without:', what else is left out; and after 'proof:'
+# a file of laws, proofs/Refutation.antt. The copy is then proved whole by rt: the edited functions meet their
+# contracts, and the negation holds.
 set -u -o pipefail
 cd "$(dirname "$0")/.."
 top=$PWD
@@ -68,25 +69,22 @@ restore() { # CRATE
     for p in rlib/$1.rlib stamp/$1; do [ ! -e "$top/target/$p" ] || cp -R "$top/target/$p" "$work/target/$p"; done
 }
 
-refute() { # NAME, in a shell of its own
-    local file=$top/refutations/$1.refutation crate edit without began=$SECONDS
+refute() { # NAME EDIT, in a shell of its own
+    local file=$top/refutations/$1.refutation crate log=$work/$1-$2.log began=$SECONDS
     crate=$(field crate "$file") crate=${crate% }
-    edit=$(field edit "$file") edit=${edit% }
     trap "restore '$crate'" EXIT
     restore "$crate"
     cd "$work/crates/$crate" || return 1
-    without=$(field without "$file")
-    # shellcheck disable=SC2086 # the paths may have wildcards
-    apply "$top/crates/$crate/must-fail/$edit.edit" && leave_out $without $(others "$file") || return 1
+    # shellcheck disable=SC2046 # the paths may have wildcards
+    apply "$top/crates/$crate/must-fail/$2.edit" && leave_out $(field without "$file") $(others "$file") || return 1
     sed '1,/^proof:$/d' "$file" >proofs/Refutation.antt
     echo 'pub mod Refutation' >>proofs/Lib.antt
-    rm -rf must-fail
     cd "$work" || return 1
-    if rt check "$crate" >"$work/$1.log" 2>&1 && grep -q '^rt: ok' "$work/$1.log"; then
-        echo "refuted: $1 ($((SECONDS - began)) s)"
+    if rt check "$crate" >"$log" 2>&1 && grep -q '^rt: ok' "$log"; then
+        echo "refuted: $crate/$2 ($((SECONDS - began)) s)"
     else
-        echo "refute: $1 is NOT refuted; see target/refute/$1.log:"
-        grep -m 5 -E 'error|NOT PROVED' "$work/$1.log"
+        echo "refute: $crate/$2 is NOT refuted; see target/refute/${log##*/}:"
+        grep -m 5 -E 'error|NOT PROVED' "$log"
         return 1
     fi
 }
@@ -102,9 +100,11 @@ for d in rlib stamp; do
 done
 
 [ $# -gt 0 ] || set -- $(cd refutations && ls ./*.refutation | sed 's|^\./||; s|\.refutation$||')
-failed=0
+held=0 failed=0
 for name in "$@"; do
-    (refute "$name") || failed=$((failed + 1))
+    for edit in $(field edit "refutations/$name.refutation"); do
+        if (refute "$name" "$edit"); then held=$((held + 1)); else failed=$((failed + 1)); fi
+    done
 done
-echo "refutations: $(($# - failed)) hold, $failed do not"
-[ "$failed" -eq 0 ]
+echo "refutations: $held hold, $failed do not"
+[ "$failed" -eq 0 ] && [ "$held" -gt 0 ]

@@ -35,7 +35,7 @@ use Rattle.warpmagpie.specs.Calls.{readValue}
 use Rattle.history.specs.Call.{Call, reset, write, read, vector, run, report, Passable, deviceIn, OnlyDataCall, OnlyData, rxdBy, rxdOf}
 use Rattle.history.specs.Receiving.{FreeCall, Free, seenBy, takenBy, readsOf, entriesBy, entriesOf}
 use Rattle.history.proofs.StepLaws.{nextDevice, write-on, read-on, induct}
-use Rattle.history.proofs.ViewLaws.{runs, eventsOf, viewOf, runs-is, next-usart, along}
+use Rattle.history.proofs.ViewLaws.{runs, eventsOf, viewOf, runs-is, next-usart, along-from, along}
 
 -- only a run shows levels
 run-levels : (t : Bool) (ls : List ℕ) → pick t (map rxdIn ls) [] ≡ levelsOf (pick t (clocksOf ls) [])
@@ -185,8 +185,4 @@ entries-view =
     induct (λ (s : List ℕ) (d : Device) (cs : List Call). OnlyData s cs → (j : ℕ) → entriesOf j s cs ≡ entriesAt j (d .usart) (viewOf d cs))
     (λ s d h o j. refl)
     (λ s d c cs h k o j.
-    let rest = viewOf (nextDevice d c) cs in
-    ap₂ (_++_) (entries-by j s d h c)
-    (k (o .1) (j + length (rxdBy s c))
-    ∙ ap₂ (λ (n : ℕ) (u : Usart). entriesAt n u rest) (ap (λ (ls : List Bool). j + length ls) (rxd-by s d h c)) (next-usart s d c (o .0)))
-    ∙ sym (entries-append j (d .usart) (eventsOf d c) rest))
+    along-from (λ u es. length (levelsOf es)) entriesAt entries-append j s d c cs (o .0) (ap length (rxd-by s d h c)) (entries-by j s d h c) (k (o .1) (j + length (rxdBy s c))))

@@ -42,8 +42,8 @@ use Rattle.record.proofs.Round.{decode-valid}
 use Rattle.warpmagpie.specs.Calls.{shown, runOn, outputsOn}
 use Rattle.history.specs.Call.{Call, reset, write, read, vector, run, report, Passable, deviceIn, usartOf, OnlyData}
 use Rattle.history.specs.Sending.{MaySend, acceptedBy, takenOf, txdBy, txdOf, Sends}
-use Rattle.history.proofs.StepLaws.{nextDevice, induct}
-use Rattle.history.proofs.ViewLaws.{runs, eventsOf, viewOf, next-usart, along, final-view}
+use Rattle.history.proofs.StepLaws.{induct}
+use Rattle.history.proofs.ViewLaws.{runs, eventsOf, viewOf, along-from, along, final-view}
 use Rattle.history.proofs.ReceivingView.{ucsr0a-is, ucsr0b-is, only-view}
 
 -- what a write of UDR0 gives the buffer
@@ -109,11 +109,7 @@ taken-view =
     induct (λ (s : List ℕ) (d : Device) (cs : List Call). OnlyData s cs → (j : ℕ) → takenOf j s cs ≡ takenIn j (d .usart) (viewOf d cs))
     (λ s d h o j. refl)
     (λ s d c cs h k o j.
-    let rest = viewOf (nextDevice d c) cs in
-    ap₂ (_++_) (taken-by j s d h c)
-    (k (o .1) (j + length (txdBy s c))
-    ∙ ap₂ (λ (n : ℕ) (u : Usart). takenIn n u rest) (ap (λ (os : List ℕ). j + length os) (txd-by s d h c)) (next-usart s d c (o .0)))
-    ∙ sym (taken-append j (d .usart) (eventsOf d c) rest))
+    along-from (λ u es. length (outputsAt u es)) takenIn taken-append j s d c cs (o .0) (ap length (txd-by s d h c)) (taken-by j s d h c) (k (o .1) (j + length (txdBy s c))))
 
 pub sends : (d : Device) (s : List ℕ) (cs : List Call) → MaySend d s cs → Sends d s cs
 sends d s cs m =

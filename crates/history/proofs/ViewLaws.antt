@@ -1,4 +1,5 @@
--- The serial view of a history: the serial unit's events. What the statements say of calls on a record is what the unit's own say of them.
+-- The serial view of a history: the serial unit's events. What the statements say of calls on a record is what the
+-- unit's own say of them.
 use Prim.Native.Nat.{ℕ, _+_}
 use mathlib.Core.Bool.{Bool, true, false}
 use mathlib.Core.List.{List, [], _∷_, _++_}
@@ -65,12 +66,21 @@ next-usart s d (vector n) o = vector-serial d n
 next-usart s d (run ls os) o = ran-serial d ls os
 next-usart s d report o = refl
 
--- what of a list is made of its parts, made of a call's and of the rest's
+-- what of a list is made of its parts, made of a call's and of the rest's: of the rest from n clocks on, the clocks of
+-- the call
+pub along-from : {A : Type 0} (N : Usart → List Event → ℕ) (Y : ℕ → Usart → List Event → List A)
+    → ((j : ℕ) (u : Usart) (es fs : List Event) → Y j u (es ++ fs) ≡ Y j u es ++ Y (j + N u es) (finalOf u es) fs)
+    → (j : ℕ) (s : List ℕ) (d : Device) (c : Call) (cs : List Call) → OnlyDataCall s c → {n : ℕ} {x y : List A} → n ≡ N (d .usart) (eventsOf d c)
+    → x ≡ Y j (d .usart) (eventsOf d c) → y ≡ Y (j + n) (nextDevice d c .usart) (viewOf (nextDevice d c) cs) → x ++ y ≡ Y j (d .usart) (viewOf d (c ∷ cs))
+along-from N Y append j s d c cs o {n} {x} {y} hn hx hy =
+    let rest = viewOf (nextDevice d c) cs in
+    ap₂ (_++_) hx (hy ∙ ap₂ (λ (m : ℕ) (u : Usart). Y (j + m) u rest) hn (next-usart s d c o)) ∙ sym (append j (d .usart) (eventsOf d c) rest)
+
+-- the same of what does not count clocks
 pub along : {A : Type 0} (Y : Usart → List Event → List A) → ((u : Usart) (es fs : List Event) → Y u (es ++ fs) ≡ Y u es ++ Y (finalOf u es) fs)
     → (s : List ℕ) (d : Device) (c : Call) (cs : List Call) → OnlyDataCall s c → {x y : List A}
     → x ≡ Y (d .usart) (eventsOf d c) → y ≡ Y (nextDevice d c .usart) (viewOf (nextDevice d c) cs) → x ++ y ≡ Y (d .usart) (viewOf d (c ∷ cs))
-along Y append s d c cs o {x} {y} hx hy =
-    ap₂ (_++_) hx (hy ∙ ap (λ (u : Usart). Y u (viewOf (nextDevice d c) cs)) (next-usart s d c o)) ∙ sym (append (d .usart) (eventsOf d c) (viewOf (nextDevice d c) cs))
+along Y append s d c cs o hx hy = along-from (λ u es. 0) (λ j. Y) (λ j. append) 0 s d c cs o {n = 0} refl hx hy
 
 pub final-view : (s : List ℕ) (d : Device) (cs : List Call) → decodeOf s ≡ Accepted d → Passable cs → OnlyData s cs
     → usartOf (finalRecord s cs) ≡ finalOf (d .usart) (viewOf d cs)
