@@ -1,2 +1,3 @@
 pub mod Picks
 pub mod Digits
+pub mod TimesLaws

@@ -2,9 +2,8 @@
 -- A goal `r ≡ pick t a b` follows from the test's value, which is a branch's fact, and `r ≡ a` or `r ≡ b`, which is what a callee
 -- ensures, or `refl`. The lemmas that end in `-of` are for a test on what a call returned: `n` is the result, `n ≡ b` what it ensures.
 use Prim.Native.Nat.{ℕ, _<_, _≤_}
-use mathlib.Core.Bool.{Bool, true, false}
+use mathlib.Core.Bool.{Bool, true, false, true≢false}
 use mathlib.Core.Path.{_≡_, refl, sym, ap, subst, _∙_}
-use native.Mathlib.Omega.{arith}
 use lib.Dec.{ltb, leb}
 use borrow.Author.Tests.{not-true, not-false, eq-eqb, ne-eqb, lt-ltb, le-ltb, le-leb, lt-leb}
 use Rattle.choice.specs.Pick.{pick}
@@ -50,10 +49,14 @@ pub split : {P : Type 0} (b : Bool) → (b ≡ true → P) → (b ≡ false → 
 split true f g = f refl
 split false f g = g refl
 
+-- no test has both values
+pub clash : {P : Type 0} {b : Bool} → b ≡ true → b ≡ false → P
+clash t f = absurd (true≢false (sym t ∙ f))
+
 -- both tests of a pair hold
 pub both : (a b : Bool) → pick a b false ≡ true → (a ≡ true) × (b ≡ true)
 both true b h = (refl, h)
-both false b h = absurd (let z : _≡_ {A = ℕ} 0 1 = cc in omega arith)
+both false b h = clash h refl
 
 pub ruleset picks =
     (not-true, not-false, flag-of, le-leb-of, lt-leb-of, pick-true, pick-false, lt-ltb-of, le-ltb-of, eq-eqb, ne-eqb, lt-ltb, le-ltb, le-leb, lt-leb)

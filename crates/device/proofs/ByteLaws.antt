@@ -21,7 +21,7 @@ use Rattle.spi.specs.declared.unit.Spi.{Spi}
 use Rattle.spi.specs.declared.register.Register.{Register as SpiRegister}
 use Rattle.spi.specs.declared.register.Register.the-variants.{Spcr, Spsr, Spdr, Ddrb}
 use Rattle.device.specs.Address.{placeOf, serialAddress, spiAddress, Addresses}
-use Rattle.device.specs.Answer.{valueOf}
+use Rattle.device.specs.Outcome.{valueOf}
 use Rattle.device.specs.Unit.{resetDevice, rxdIn, levelsIn, clockOf, outputOf, requestsOf}
 use Rattle.device.specs.Bytes.{levelByte, LevelBits, mosiDriven, misoDriven, sckDriven, shownAs, OutputBits, RequestBits}
 use Rattle.device.specs.Register.{resetReads, resetIn, resetAt, readIn, readOf}

@@ -4,53 +4,38 @@ use mathlib.Core.Path.{_≡_, refl, sym, ap, _∙_}
 use Rattle.usart.specs.Unit.{resetUsart}
 use Rattle.usart.specs.Read.{readOf as serialReadOf}
 use Rattle.usart.specs.Refusing.{numberIn}
-use Rattle.usart.specs.Write.{numberOf as serialNumber, writeOf as serialWriteOf}
-use Rattle.usart.specs.declared.write.Refusal.{Refusal as SerialRefusal}
-use Rattle.usart.specs.declared.write.Refusal.the-variants.{Reserved as SerialReserved, Unmodelled as SerialUnmodelled, UnderWay as SerialUnderWay, Unrequested as SerialUnrequested}
+use Rattle.usart.specs.Write.{writeOf as serialWriteOf}
 use Rattle.usart.specs.declared.write.Register.{Register as SerialRegister}
 use Rattle.usart.specs.declared.write.Written.{Written as SerialWritten}
 use Rattle.usart.specs.declared.write.Written.the-variants.{Done as SerialDone, Refused as SerialRefused}
 use Rattle.usart.specs.declared.read.Reading.{Reading as SerialReading}
 use Rattle.spi.specs.Unit.{resetSpi}
 use Rattle.spi.specs.Refusing.{numberIn as spiNumberIn}
-use Rattle.spi.specs.Register.{numberOf as spiNumber, readOf as spiReadOf, writeOf as spiWriteOf}
-use Rattle.spi.specs.declared.register.Refusal.{Refusal as SpiRefusal}
-use Rattle.spi.specs.declared.register.Refusal.the-variants.{UnderWay as SpiUnderWay, Unrequested as SpiUnrequested}
+use Rattle.spi.specs.Register.{readOf as spiReadOf, writeOf as spiWriteOf}
 use Rattle.spi.specs.declared.register.Register.{Register as SpiRegister}
 use Rattle.spi.specs.declared.register.Written.{Written as SpiWritten}
 use Rattle.spi.specs.declared.register.Written.the-variants.{Done as SpiDone, Refused as SpiRefused}
 use Rattle.spi.specs.declared.register.Reading.{Reading as SpiReading}
-use Rattle.device.specs.Answer.{numberOf, answerOf, ofSerial, ofSpi}
+use Rattle.device.specs.Outcome.{answerOf}
 use Rattle.device.specs.Address.{placeOf}
 use Rattle.device.specs.Register.{resetIn, resetAt, serialWritten, spiWritten, writeIn, writeOf, serialRead, spiRead, readIn, readOf}
-use Rattle.device.specs.declared.answer.Refusal.the-variants.{Unknown}
-use Rattle.device.specs.declared.answer.Written.{Written}
-use Rattle.device.specs.declared.answer.Written.the-variants.{Refused}
-use Rattle.device.specs.declared.answer.Reading.{Reading}
-use Rattle.device.specs.declared.answer.Reading.the-variants.{Refused as NoValue}
+use Rattle.answer.specs.declared.Refusal.the-variants.{Unknown}
+use Rattle.device.specs.declared.outcome.Written.{Written}
+use Rattle.device.specs.declared.outcome.Written.the-variants.{Refused}
+use Rattle.device.specs.declared.outcome.Reading.{Reading}
+use Rattle.device.specs.declared.outcome.Reading.the-variants.{Refused as NoValue}
 use Rattle.device.specs.declared.address.Place.{Place}
 use Rattle.device.specs.declared.address.Place.the-variants.{Serial, Spi, Nowhere}
 use Rattle.device.specs.declared.unit.Device.{Device}
 
--- a unit's refusal keeps its number
-pub number-serial : (r : SerialRefusal) → numberOf (ofSerial r) ≡ serialNumber r
-number-serial SerialReserved = refl
-number-serial SerialUnmodelled = refl
-number-serial SerialUnderWay = refl
-number-serial SerialUnrequested = refl
-
-pub number-spi : (r : SpiRefusal) → numberOf (ofSpi r) ≡ spiNumber r
-number-spi SpiUnderWay = refl
-number-spi SpiUnrequested = refl
-
--- .. so the device answers a unit's number
+-- the device answers a unit's number
 pub answer-serial : (d : Device) (w : SerialWritten) → answerOf (serialWritten d w) ≡ numberIn w
 answer-serial d (SerialDone u) = refl
-answer-serial d (SerialRefused r) = number-serial r
+answer-serial d (SerialRefused r) = refl
 
 pub answer-spi : (d : Device) (w : SpiWritten) → answerOf (spiWritten d w) ≡ spiNumberIn w
 answer-spi d (SpiDone s) = refl
-answer-spi d (SpiRefused r) = number-spi r
+answer-spi d (SpiRefused r) = refl
 
 -- the place of an address is p
 module _ (a : ℕ) {p : Place} (at : p ≡ placeOf a) where

@@ -17,15 +17,15 @@ use Rattle.usart.specs.declared.write.Written.the-variants.{Done as SerialDone,
 use Rattle.spi.specs.Register.{writeOf as spiWriteOf, vectorOf as spiVectorOf}
 use Rattle.spi.specs.declared.register.Written.{Written as SpiWritten}
 use Rattle.spi.specs.declared.register.Written.the-variants.{Done as SpiDone, Refused as SpiRefused}
-use Rattle.device.specs.Answer.{settled, readSettled}
+use Rattle.device.specs.Outcome.{settled, readSettled}
 use Rattle.device.specs.Address.{placeOf}
 use Rattle.device.specs.Output.{txdBits}
 use Rattle.device.specs.Unit.{rxdIn, clockOf}
 use Rattle.device.specs.Register.{serialWritten, spiWritten, writeIn, writeOf, readIn, readOf, vectorOf}
 use Rattle.device.specs.Run.{ranOf, outputsOf}
 use Rattle.device.specs.Serial.{isData, clocksOf, writesAt, readsAt, vectorsAt}
-use Rattle.device.specs.declared.answer.Written.the-variants.{Refused}
-use Rattle.device.specs.declared.answer.Refusal.the-variants.{Unknown}
+use Rattle.device.specs.declared.outcome.Written.the-variants.{Refused}
+use Rattle.answer.specs.declared.Refusal.the-variants.{Unknown}
 use Rattle.device.specs.declared.address.Place.{Place}
 use Rattle.device.specs.declared.address.Place.the-variants.{Serial, Spi, Nowhere}
 use Rattle.device.specs.declared.unit.Device.{Device}

@@ -14,13 +14,13 @@ use Rattle.spi.specs.Valid.{Valid as ValidSpi}
 use Rattle.spi.specs.declared.register.Written.{Written as SpiWritten}
 use Rattle.spi.specs.declared.register.Written.the-variants.{Done as SpiDone, Refused as SpiRefused}
 use Rattle.spi.proofs.ValidLaws.{valid-reset as spi-reset, valid-clock as spi-clock, valid-write as spi-write, valid-read as spi-read, valid-vector as spi-vector}
-use Rattle.device.specs.Answer.{settled, readSettled}
+use Rattle.device.specs.Outcome.{settled, readSettled}
 use Rattle.device.specs.Address.{placeOf}
 use Rattle.device.specs.Unit.{resetDevice, rxdIn, levelsIn, clockOf}
 use Rattle.device.specs.Register.{serialWritten, spiWritten, writeIn, writeOf, readIn, readOf, vectorOf}
 use Rattle.device.specs.Run.{ranOf}
 use Rattle.device.specs.Valid.{Valid}
-use Rattle.device.specs.declared.answer.Written.{Written}
+use Rattle.device.specs.declared.outcome.Written.{Written}
 use Rattle.device.specs.declared.address.Place.{Place}
 use Rattle.device.specs.declared.address.Place.the-variants.{Serial, Spi, Nowhere}
 use Rattle.device.specs.declared.unit.Device.{Device}

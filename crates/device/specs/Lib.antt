@@ -1,4 +1,4 @@
-pub mod Answer
+pub mod Outcome
 pub mod Address
 pub mod Unit
 pub mod Output

@@ -13,14 +13,13 @@ use Rattle.spi.specs.Register.{readOf as spiReadOf, writeOf as spiWriteOf, vect
 use Rattle.spi.specs.declared.register.Written.{Written as SpiWritten}
 use Rattle.spi.specs.declared.register.Written.the-variants.{Done as SpiDone, Refused as SpiRefused}
 use Rattle.spi.specs.declared.register.Reading.{Reading as SpiReading}
-use Rattle.device.specs.Answer.{ofSerial, ofSpi}
 use Rattle.device.specs.Address.{placeOf}
 use Rattle.device.specs.Unit.{withUsart, withSpi}
-use Rattle.device.specs.declared.answer.Refusal.the-variants.{Unknown}
-use Rattle.device.specs.declared.answer.Written.{Written}
-use Rattle.device.specs.declared.answer.Written.the-variants.{Done, Refused}
-use Rattle.device.specs.declared.answer.Reading.{Reading}
-use Rattle.device.specs.declared.answer.Reading.the-variants.{Done as Value, Refused as NoValue}
+use Rattle.answer.specs.declared.Refusal.the-variants.{Unknown}
+use Rattle.device.specs.declared.outcome.Written.{Written}
+use Rattle.device.specs.declared.outcome.Written.the-variants.{Done, Refused}
+use Rattle.device.specs.declared.outcome.Reading.{Reading}
+use Rattle.device.specs.declared.outcome.Reading.the-variants.{Done as Value, Refused as NoValue}
 use Rattle.device.specs.declared.address.Place.{Place}
 use Rattle.device.specs.declared.address.Place.the-variants.{Serial, Spi, Nowhere}
 use Rattle.device.specs.declared.unit.Device.{Device}
@@ -41,11 +40,11 @@ resetReads a = pick (eqb a 0xC0) 0x20 (pick (eqb a 0xC2) 0x06 0)
 
 abbrev pub serialWritten : Device → SerialWritten → Written
 serialWritten d (SerialDone u) = Done (withUsart d u)
-serialWritten d (SerialRefused r) = Refused (ofSerial r)
+serialWritten d (SerialRefused r) = Refused r
 
 abbrev pub spiWritten : Device → SpiWritten → Written
 spiWritten d (SpiDone s) = Done (withSpi d s)
-spiWritten d (SpiRefused r) = Refused (ofSpi r)
+spiWritten d (SpiRefused r) = Refused r
 
 -- 1 for no such address goes before a unit's own refusals
 abbrev pub writeIn : Device → Place → ℕ → Written

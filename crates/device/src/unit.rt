@@ -1,7 +1,7 @@
+use answer::Refusal;
 use crate::address::Place;
-use crate::answer::Reading;
-use crate::answer::Refusal;
-use crate::answer::Written;
+use crate::outcome::Reading;
+use crate::outcome::Written;
 use spi::Levels;
 use spi::Spi;
 use usart::Usart;
@@ -101,7 +101,7 @@ impl Device {
     {
         match w {
             usart::Written::Done(u) => Written::Done(self.with_usart(u)),
-            usart::Written::Refused(r) => Written::Refused(Refusal::of_serial(r)),
+            usart::Written::Refused(r) => Written::Refused(r),
         }
     }
 
@@ -110,7 +110,7 @@ impl Device {
     {
         match w {
             spi::Written::Done(s) => Written::Done(self.with_spi(s)),
-            spi::Written::Refused(r) => Written::Refused(Refusal::of_spi(r)),
+            spi::Written::Refused(r) => Written::Refused(r),
         }
     }
 

@@ -9,7 +9,7 @@ use Rattle.usart.specs.declared.queue.Places.the-variants.{Two}
 use Rattle.usart.specs.declared.sampler.Sampler.the-variants.{Idle}
 use Rattle.usart.specs.declared.sender.Buffer.the-variants.{Vacant}
 use Rattle.usart.specs.declared.sender.Shifter.the-variants.{Resting}
-use Rattle.spi.specs.Control.{numberOf}
+use Rattle.spi.specs.Control.{divisorNumber}
 use Rattle.spi.specs.Unit.{resetSpi}
 use Rattle.device.specs.Address.{placeOf}
 use Rattle.device.specs.declared.unit.Device.{Device}
@@ -41,10 +41,10 @@ twoHeld = record {
 
 -- just before the read: the first frame's
 pub seen-before : seenBy (recordOf twoHeld) ≡ record { value = 0x55; rxb8 = 1; fe = 0; dor = 0; upe = 0 }
-unfolding twoHeld decodeOf recordOf eqList inRange disabledFits enabledFits dueFits flagOf bufferOf shifterOf samplerOf placesOf sizeOf parityOf numberOf readOn placeOf
+unfolding twoHeld decodeOf recordOf eqList inRange disabledFits enabledFits dueFits flagOf bufferOf shifterOf samplerOf placesOf sizeOf parityOf divisorNumber readOn placeOf
 seen-before = refl
 
 -- after it: the next one's
 pub seen-after : seenBy (recordAfter (recordOf twoHeld) (read 0xC6)) ≡ record { value = 0xAA; rxb8 = 0; fe = 1; dor = 1; upe = 1 }
-unfolding twoHeld decodeOf recordOf eqList inRange disabledFits enabledFits dueFits flagOf bufferOf shifterOf samplerOf placesOf sizeOf parityOf numberOf readOn placeOf
+unfolding twoHeld decodeOf recordOf eqList inRange disabledFits enabledFits dueFits flagOf bufferOf shifterOf samplerOf placesOf sizeOf parityOf divisorNumber readOn placeOf
 seen-after = refl

@@ -12,7 +12,7 @@ use Rattle.usart.specs.Receiving.{Free as FreeAt}
 use Rattle.usart.specs.declared.unit.Usart.{Usart}
 use Rattle.usart.proofs.ClosedLists.{free, free-free}
 use Rattle.device.specs.Address.{placeOf}
-use Rattle.device.specs.Answer.{answerOf}
+use Rattle.device.specs.Outcome.{answerOf}
 use Rattle.device.specs.Register.{writeOf}
 use Rattle.device.specs.Serial.{isSerial, clocksOf, writesAt, readsAt, vectorsAt}
 use Rattle.device.specs.declared.unit.Device.{Device}

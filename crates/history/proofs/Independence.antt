@@ -15,16 +15,16 @@ use Rattle.usart.specs.Refusing.{numberIn}
 use Rattle.usart.specs.declared.unit.Usart.{Usart}
 use Rattle.spi.specs.Register.{vectorOf as spiVectorOf}
 use Rattle.device.specs.Address.{placeOf}
-use Rattle.device.specs.Answer.{answerOf, readAnswerOf, valueOf}
+use Rattle.device.specs.Outcome.{answerOf, readAnswerOf, valueOf}
 use Rattle.device.specs.Register.{serialWritten, spiWritten, writeIn, readIn, vectorOf}
 use Rattle.device.specs.Serial.{isSerial, clocksOf, writesAt, readsAt, vectorsAt}
 use Rattle.device.specs.Unit.{rxdIn}
 use Rattle.device.specs.declared.address.Place.{Place}
 use Rattle.device.specs.declared.address.Place.the-variants.{Serial, Spi, Nowhere}
-use Rattle.device.specs.declared.answer.Refusal.the-variants.{Unknown}
-use Rattle.device.specs.declared.answer.Reading.{Reading}
-use Rattle.device.specs.declared.answer.Written.{Written}
-use Rattle.device.specs.declared.answer.Written.the-variants.{Refused}
+use Rattle.answer.specs.declared.Refusal.the-variants.{Unknown}
+use Rattle.device.specs.declared.outcome.Reading.{Reading}
+use Rattle.device.specs.declared.outcome.Written.{Written}
+use Rattle.device.specs.declared.outcome.Written.the-variants.{Refused}
 use Rattle.device.specs.declared.unit.Device.{Device}
 use Rattle.device.proofs.OutputLaws.{requests-serial}
 use Rattle.device.proofs.RegisterLaws.{answer-serial}

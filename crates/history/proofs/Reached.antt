@@ -5,7 +5,7 @@ use mathlib.Core.Path.{_≡_, ap, _∙_}
 use lib.ListN.{length}
 use Rattle.device.specs.Unit.{resetDevice}
 use Rattle.device.specs.Valid.{Valid}
-use Rattle.device.specs.declared.answer.Written.{Written}
+use Rattle.device.specs.declared.outcome.Written.{Written}
 use Rattle.device.specs.declared.unit.Device.{Device}
 use Rattle.device.proofs.ValidLaws.{valid-reset}
 use Rattle.record.specs.Codec.{decodeOf}

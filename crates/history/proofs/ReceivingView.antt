@@ -20,7 +20,7 @@ use Rattle.usart.specs.declared.write.Written.{Written as SerialWritten}
 use Rattle.usart.specs.declared.write.Written.the-variants.{Done as SerialDone, Refused as SerialRefused}
 use Rattle.usart.proofs.AppendLaws.{levels-append, only-append, free-append, reads-append, entries-append}
 use Rattle.device.specs.Address.{placeOf}
-use Rattle.device.specs.Answer.{answerOf, valueOf}
+use Rattle.device.specs.Outcome.{answerOf, valueOf}
 use Rattle.device.specs.Register.{serialWritten, writeIn}
 use Rattle.device.specs.Serial.{isSerial, isData, clocksOf, writesAt, readsAt}
 use Rattle.device.specs.Unit.{rxdIn}

@@ -23,16 +23,16 @@ use Rattle.usart.proofs.AppendLaws.{outputs-append, taken-append}
 use Rattle.usart.proofs.ReadLaws.{status, txb8-bit}
 use Rattle.usart.proofs.SendingLine.{sends as sends-at}
 use Rattle.device.specs.Address.{placeOf}
-use Rattle.device.specs.Answer.{answerOf}
+use Rattle.device.specs.Outcome.{answerOf}
 use Rattle.device.specs.Output.{txdBits}
 use Rattle.device.specs.Run.{ranOf, outputsOf, areLevels}
 use Rattle.device.specs.Serial.{isData, clocksOf, writesAt}
 use Rattle.device.specs.Unit.{rxdIn}
 use Rattle.device.specs.declared.address.Place.{Place}
 use Rattle.device.specs.declared.address.Place.the-variants.{Serial, Spi, Nowhere}
-use Rattle.device.specs.declared.answer.Refusal.the-variants.{Length, Level}
-use Rattle.device.specs.declared.answer.Written.{Written}
-use Rattle.device.specs.declared.answer.Written.the-variants.{Done, Refused}
+use Rattle.answer.specs.declared.Refusal.the-variants.{Length, Level}
+use Rattle.device.specs.declared.outcome.Written.{Written}
+use Rattle.device.specs.declared.outcome.Written.the-variants.{Done, Refused}
 use Rattle.device.specs.declared.unit.Device.{Device}
 use Rattle.device.proofs.SerialLaws.{data-address, outputs-serial, writes-are, reads-are, vectors-are}
 use Rattle.record.specs.Codec.{decodeOf}

@@ -16,17 +16,17 @@ use Rattle.spi.specs.Register.{writeOf as spiWriteOf, vectorOf as spiVectorOf}
 use Rattle.spi.specs.Unit.{isRequested}
 use Rattle.spi.proofs.RefusalLaws.{write-number as spi-write, vector-number as spi-vector}
 use Rattle.device.specs.Address.{placeOf}
-use Rattle.device.specs.Answer.{answerOf, readAnswerOf, valueOf}
+use Rattle.device.specs.Outcome.{answerOf, readAnswerOf, valueOf}
 use Rattle.device.specs.Register.{serialWritten, spiWritten, writeIn, readIn, vectorOf}
 use Rattle.device.specs.Run.{ranOf, outputsOf, areLevels}
 use Rattle.device.specs.Unit.{resetDevice}
 use Rattle.device.specs.declared.address.Place.{Place}
 use Rattle.device.specs.declared.address.Place.the-variants.{Serial, Spi, Nowhere}
-use Rattle.device.specs.declared.answer.Refusal.the-variants.{Unknown, Record, Length, Level}
-use Rattle.device.specs.declared.answer.Reading.{Reading}
-use Rattle.device.specs.declared.answer.Reading.the-variants.{Done as Value, Refused as NoValue}
-use Rattle.device.specs.declared.answer.Written.{Written}
-use Rattle.device.specs.declared.answer.Written.the-variants.{Done, Refused}
+use Rattle.answer.specs.declared.Refusal.the-variants.{Unknown, Record, Length, Level}
+use Rattle.device.specs.declared.outcome.Reading.{Reading}
+use Rattle.device.specs.declared.outcome.Reading.the-variants.{Done as Value, Refused as NoValue}
+use Rattle.device.specs.declared.outcome.Written.{Written}
+use Rattle.device.specs.declared.outcome.Written.the-variants.{Done, Refused}
 use Rattle.device.specs.declared.unit.Device.{Device}
 use Rattle.device.proofs.RegisterLaws.{answer-serial, answer-spi}
 use Rattle.record.specs.Codec.{decodeOf}

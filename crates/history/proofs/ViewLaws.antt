@@ -11,12 +11,12 @@ use Rattle.usart.specs.Event.{Event, finalOf}
 use Rattle.usart.specs.declared.unit.Usart.{Usart}
 use Rattle.usart.proofs.AppendLaws.{final-append}
 use Rattle.device.specs.Address.{placeOf}
-use Rattle.device.specs.Answer.{answerOf, settled}
+use Rattle.device.specs.Outcome.{answerOf, settled}
 use Rattle.device.specs.Run.{ranOf, areLevels}
 use Rattle.device.specs.Serial.{clocksOf, writesAt, readsAt, vectorsAt}
-use Rattle.device.specs.declared.answer.Refusal.the-variants.{Length, Level}
-use Rattle.device.specs.declared.answer.Written.{Written}
-use Rattle.device.specs.declared.answer.Written.the-variants.{Done, Refused}
+use Rattle.answer.specs.declared.Refusal.the-variants.{Length, Level}
+use Rattle.device.specs.declared.outcome.Written.{Written}
+use Rattle.device.specs.declared.outcome.Written.the-variants.{Done, Refused}
 use Rattle.device.specs.declared.unit.Device.{Device}
 use Rattle.device.proofs.SerialLaws.{write-serial, read-serial, vector-serial, run-serial}
 use Rattle.record.specs.Codec.{decodeOf}

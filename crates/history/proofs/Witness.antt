@@ -32,7 +32,7 @@ use Rattle.usart.specs.declared.sender.Shifter.the-variants.{Resting}
 use Rattle.usart.proofs.ClosedLists.{bool-eqb, shown, shown-shows, room, free}
 use Rattle.spi.specs.Unit.{resetSpi}
 use Rattle.spi.specs.Clock.{masterOf, steppedOf as spiStepped, completedFlags}
-use Rattle.spi.specs.Control.{numberOf}
+use Rattle.spi.specs.Control.{divisorNumber}
 use Rattle.spi.specs.Register.{writeSpcr, startedOf, loadedOf, vectorOf as spiVectorOf}
 use Rattle.spi.specs.Transfer.{isUnderWay, edgedOf}
 use Rattle.spi.specs.Unit.{differs, isRequested}
@@ -128,7 +128,7 @@ unfoldable meets : Bool → Bool
 meets u2x = pick (onlyAll (start u2x) (calls u2x)) (pick (roomyAll (start u2x) (calls u2x)) (shown (level u2x) 0 (levelsOf (viewOf (start u2x) (calls u2x)))) false) false
 
 computed : (u2x : Bool) → meets u2x ≡ true
-unfolding meets only onlyAll roomy roomyAll start frames level line blank calls shown free room bool-eqb lineLevel frameBit sumOfBits leftOf steppedOf idleOf castOf nextBitOf shiftedOf decidedOf votedOf sampledOf samplerOf listenedOf isBusy clockOf sizeOf parityOf formattedOf writeC isReservedC sizedC timedOf transmittedOf serialVectorOf parityError placeOf ranOf areLevels runOn vectorOf vectorsAt spiStepped masterOf completedFlags numberOf writeSpcr startedOf loadedOf spiVectorOf isUnderWay edgedOf differs isRequested isSampling isPutting edgeOf outBit shiftedIn
+unfolding meets only onlyAll roomy roomyAll start frames level line blank calls shown free room bool-eqb lineLevel frameBit sumOfBits leftOf steppedOf idleOf castOf nextBitOf shiftedOf decidedOf votedOf sampledOf samplerOf listenedOf isBusy clockOf sizeOf parityOf formattedOf writeC isReservedC sizedC timedOf transmittedOf serialVectorOf parityError placeOf ranOf areLevels runOn vectorOf vectorsAt spiStepped masterOf completedFlags divisorNumber writeSpcr startedOf loadedOf spiVectorOf isUnderWay edgedOf differs isRequested isSampling isPutting edgeOf outBit shiftedIn
 computed true = refl
 computed false = refl
 

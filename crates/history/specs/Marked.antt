@@ -16,13 +16,13 @@ use Rattle.usart.specs.Line.{Sent, lineLevel}
 use Rattle.usart.specs.Marked.{zeros}
 use Rattle.usart.specs.Receiving.{bitAt}
 use Rattle.usart.specs.declared.unit.Usart.{Usart}
-use Rattle.spi.specs.Control.{numberOf}
+use Rattle.spi.specs.Control.{divisorNumber}
 use Rattle.spi.specs.Event.{Event, clock, clocksIn, isUndisturbed}
 use Rattle.spi.specs.Exchange.{SetsSpif, MayStart}
 use Rattle.spi.specs.Register.{writeSpdr}
 use Rattle.spi.specs.declared.clock.Levels.{Levels}
 use Rattle.spi.specs.declared.unit.Spi.{Spi}
-use Rattle.device.specs.Answer.{answerOf, valueOf, settled, readSettled}
+use Rattle.device.specs.Outcome.{answerOf, valueOf, settled, readSettled}
 use Rattle.device.specs.Register.{writeOf, readOf}
 use Rattle.device.specs.Run.{ranOf}
 use Rattle.device.specs.Unit.{resetDevice, clockOf, outputOf}
@@ -65,7 +65,7 @@ M6 = (d : Device) → d .usart .format .size ≡ Nine → answerOf (writeOf d 0x
 abbrev pub SpifOn : ℕ → ℕ → Type 0
 SpifOn i n =
     (s : Spi) (v : ℕ) (es : List Event) (l : Levels) → MayStart s v → isUndisturbed (writeSpdr s v) (es ++ (clock l ∷ [])) ≡ true
-    → numberOf (s .control) ≡ i → clocksIn es + 1 ≡ n → SetsSpif (writeSpdr s v) (es ++ (clock l ∷ []))
+    → divisorNumber (s .control) ≡ i → clocksIn es + 1 ≡ n → SetsSpif (writeSpdr s v) (es ++ (clock l ∷ []))
 
 -- M7: divisor 2: SPIF on clock 16; divisor 128: clock 1,024
 abbrev pub M7 : Type 0

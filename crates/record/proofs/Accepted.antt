@@ -2,7 +2,7 @@
 -- program that changes a definition is refused here first.
 use mathlib.Core.Path.{_≡_, refl}
 use Rattle.usart.specs.Settings.{sizeOf, parityOf}
-use Rattle.spi.specs.Control.{numberOf}
+use Rattle.spi.specs.Control.{divisorNumber}
 use Rattle.device.specs.Unit.{resetDevice}
 use Rattle.record.specs.Codes.{flagOf}
 use Rattle.record.specs.Parts.{bufferOf, shifterOf, samplerOf, placesOf}
@@ -11,5 +11,5 @@ use Rattle.record.specs.Codec.{recordOf, decodeOf, eqList}
 use Rattle.record.specs.declared.codec.Decoded.the-variants.{Accepted}
 
 pub reset-accepted : decodeOf (recordOf resetDevice) ≡ Accepted resetDevice
-unfolding recordOf decodeOf eqList sizeOf parityOf numberOf flagOf bufferOf shifterOf samplerOf placesOf isUndecided disabledFits enabledFits dueFits inRange
+unfolding recordOf decodeOf eqList sizeOf parityOf divisorNumber flagOf bufferOf shifterOf samplerOf placesOf isUndecided disabledFits enabledFits dueFits inRange
 reset-accepted = refl

@@ -19,7 +19,7 @@ use Rattle.usart.specs.declared.sampler.Sampler.{Sampler}
 use Rattle.usart.specs.declared.sampler.Sampler.the-variants.{Idle, Receiving}
 use Rattle.usart.specs.declared.queue.Places.{Places}
 use Rattle.usart.specs.declared.queue.Places.the-variants.{Empty, One, Two}
-use Rattle.spi.specs.Control.{half, numberOf}
+use Rattle.spi.specs.Control.{half, divisorNumber}
 use Rattle.spi.specs.declared.control.Control.{Control}
 use Rattle.spi.specs.declared.flag.Flag.{Flag}
 use Rattle.spi.specs.declared.flag.Flag.the-variants.{Clear, Set, Armed}
@@ -95,7 +95,7 @@ received-sample f (Idle last) v = omega arith
 received-sample f (Receiving r) v = let l = samples-le f in let b : r .sample .0 < samples f = v .sample in omega arith
 
 left-lt : (c : Control) (n : ℕ) → n ≤ half c → n < 65
-left-lt c n h = let l = half-of (numberOf c) .high in omega arith
+left-lt c n h = let l = half-of (divisorNumber c) .high in omega arith
 
 high-12 : (x : ℕ) → x < 4096 → high x < 16
 high-12 x h = omega arith

@@ -16,7 +16,7 @@ use Rattle.spi.specs.declared.flag.Flag.the-variants.{Clear}
 use Rattle.spi.specs.declared.unit.Spi.{Spi}
 use Rattle.spi.specs.declared.register.Register.{Register}
 use Rattle.spi.specs.declared.register.Register.the-variants.{Spcr, Spsr, Spdr, Ddrb}
-use Rattle.spi.specs.declared.register.Refusal.the-variants.{UnderWay, Unrequested}
+use Rattle.answer.specs.declared.Refusal.the-variants.{UnderWay, Unrequested}
 use Rattle.spi.specs.declared.register.Written.the-variants.{Done, Refused}
 
 -- SPCR: during a transfer, with SPE cleared, or with the same bits 5 to 0

@@ -9,7 +9,7 @@ use borrow.Author.Tests.{eq-eqb, ne-eqb}
 use Rattle.choice.specs.Pick.{pick}
 use Rattle.choice.proofs.Picks.{pick-ind, both}
 use Rattle.shifter.proofs.Byte.{Presented}
-use Rattle.spi.specs.Control.{isEnabled, isMaster, modeOf, numberOf, half}
+use Rattle.spi.specs.Control.{isEnabled, isMaster, modeOf, divisorNumber, half}
 use Rattle.spi.specs.Divisor.{halfOf}
 use Rattle.spi.specs.Clock.{clockOf}
 use Rattle.spi.specs.Register.{startedOf, loadedOf, accessed, writeSpdr}
@@ -69,7 +69,7 @@ module _ (c : Control) (on : isEnabled c ≡ true) (ms : isMaster c ≡ true) wh
   }
 
   half-pos : 1 ≤ half c
-  half-pos = half-of (numberOf c) .low
+  half-pos = half-of (divisorNumber c) .low
 
   -- after j clocks and n times h more, the next clock is that of the (n + 1)-th edge
   edge-after : (es : List Event) (l : Levels) (s : Spi) (k n j : ℕ) → Due s k (suc j) → isUndisturbed s (es ++ (clock l ∷ [])) ≡ true → k + suc n ≤ 16
@@ -129,7 +129,7 @@ module _ (s : Spi) (v : ℕ) (es : List Event) (l : Levels) (m : MayStart s v) (
   edge-times zero lo hi e = absurd (omega arith)
   edge-times (suc n) lo hi e =
       let c : Control = s .control in
-      let h1 : 1 ≤ half c = half-of (numberOf c) .low in
+      let h1 : 1 ≤ half c = half-of (divisorNumber c) .low in
       let b : Begun s v (writeSpdr s v) = begun s v m in
       let d : Due c (m .enabled) (m .master) (writeSpdr s v) 0 (suc (half c - 1)) =
       record { control = b .control; edges = b .edges; left = b .left ∙ omega (arith, h1) } in
@@ -148,8 +148,8 @@ module _ (s : Spi) (v : ℕ) (es : List Event) (l : Levels) (m : MayStart s v) (
       (subst (λ (d : Control). Exchanges (modeOf d) t (t .transfer .shift) (es ++ (clock l ∷ []))) c x)
 
   -- M7: divisor 2, number 4, on clock 16; divisor 128, number 3, on clock 1024
-  pub m7 : (numberOf (s .control) ≡ 4 → clocksIn es + 1 ≡ 16 → SetsSpif (writeSpdr s v) (es ++ (clock l ∷ [])))
-      × (numberOf (s .control) ≡ 3 → clocksIn es + 1 ≡ 1024 → SetsSpif (writeSpdr s v) (es ++ (clock l ∷ [])))
+  pub m7 : (divisorNumber (s .control) ≡ 4 → clocksIn es + 1 ≡ 16 → SetsSpif (writeSpdr s v) (es ++ (clock l ∷ [])))
+      × (divisorNumber (s .control) ≡ 3 → clocksIn es + 1 ≡ 1024 → SetsSpif (writeSpdr s v) (es ++ (clock l ∷ [])))
   m7 = (
     λ n e. master-exchanges (e ∙ ap (λ (i : ℕ). 16 * halfOf i) (sym n)) .flags,
     λ n e. master-exchanges (e ∙ ap (λ (i : ℕ). 16 * halfOf i) (sym n)) .flags,

@@ -9,7 +9,7 @@ use Rattle.choice.specs.Pick.{pick}
 use Rattle.choice.proofs.Picks.{pick-ind}
 use Rattle.shifter.specs.declared.Mode.{Mode}
 use Rattle.shifter.proofs.Byte.{edge-lt}
-use Rattle.spi.specs.Control.{isEnabled, isMaster, cpolOf, modeOf, numberOf, half, withoutMstr, isInput}
+use Rattle.spi.specs.Control.{isEnabled, isMaster, cpolOf, modeOf, divisorNumber, half, withoutMstr, isInput}
 use Rattle.spi.specs.Divisor.{halfOf}
 use Rattle.spi.specs.Transfer.{isUnderWay, droppedOf, edgedOf}
 use Rattle.spi.specs.Unit.{resetSpi, differs, isRequested}
@@ -64,7 +64,7 @@ module _ (s : Spi) (on : isEnabled (s .control) ≡ true) (v : Valid s) where
   valid-master : (miso : Bool) → isMaster (s .control) ≡ true → Valid (masterOf s miso)
   unfolding masterOf
   valid-master miso m =
-      let h1 : 1 ≤ half (s .control) = half-of (numberOf (s .control)) .low in
+      let h1 : 1 ≤ half (s .control) = half-of (divisorNumber (s .control)) .low in
       let c : Control = s .control in
       pick-ind Valid (eqb (s .transfer .left .0) 0) _ _ (λ _. v)
       (λ n0. pick-ind Valid (eqb (s .transfer .left .0) 1) _ _
@@ -146,7 +146,7 @@ valid-controlled s c v e =
 -- SPCR with the same bits 5 to 0 and SPE set
 valid-same : (c : Control) (x : ℕ) (t : Transfer) → eqb (x / 64 % 2) 0 ≡ false → eqb (x % 64) (c .spcr % 64) ≡ true → ValidTransfer c t
     → ValidTransfer (record { spcr = x; spi2x = c .spi2x; ddrb = c .ddrb }) t
-unfolding numberOf
+unfolding divisorNumber
 valid-same c x t on e v =
     let low : x % 64 ≡ c .spcr % 64 = eqb-true (x % 64) (c .spcr % 64) e in
     let m : x / 16 % 2 ≡ c .spcr / 16 % 2 = omega arith in
@@ -216,7 +216,7 @@ valid-loaded s x h v =
 
 -- the transfer does not look at DDRB
 valid-ddrb : (s : Spi) (x : ℕ) → x < 256 → Valid s → Valid (setDdrb s x)
-unfolding numberOf
+unfolding divisorNumber
 valid-ddrb s x h v =
     let t : ValidTransfer (s .control) (s .transfer) = v .transfer in
     record {

@@ -14,7 +14,7 @@ use Rattle.shifter.specs.declared.Mode.{Mode}
 use Rattle.shifter.specs.declared.Shifter.{Shifter}
 use Rattle.shifter.proofs.Byte.{Presented}
 use Rattle.shifter.proofs.Joined.{swaps}
-use Rattle.spi.specs.Control.{isEnabled, isMaster, cpolOf, modeOf, numberOf, half, isInput, drives}
+use Rattle.spi.specs.Control.{isEnabled, isMaster, cpolOf, modeOf, divisorNumber, half, isInput, drives}
 use Rattle.spi.specs.Flag.{isUp}
 use Rattle.spi.specs.Unit.{differs, sckOf}
 use Rattle.spi.specs.Clock.{isEdge, clockOf}
@@ -257,7 +257,7 @@ module _ (a b : Control) (w : Linked a b) where
     aim (over A B) = record { master = A; slave = B }
 
     half-pos : half a ≡ suc (half a - 1)
-    half-pos = omega (arith, half-of (numberOf a) .low)
+    half-pos = omega (arith, half-of (divisorNumber a) .low)
 
     module _ (p : Pair) (j k : ℕ) (A B : Shifter) (h : Heard (p .slave) k B) where
       not-due : (n d : ℕ) → Going (p .master) j n (suc d) A → edgeAt (p .master) (busOf p true .sck) ≡ false

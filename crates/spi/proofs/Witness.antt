@@ -6,7 +6,7 @@ use mathlib.Core.Path.{refl}
 use lib.Dec.{lit<}
 use Rattle.shifter.specs.Order.{outBit, shiftedIn}
 use Rattle.shifter.specs.Edge.{isSampling, isPutting, edgeOf}
-use Rattle.spi.specs.Control.{modeOf, numberOf}
+use Rattle.spi.specs.Control.{modeOf, divisorNumber}
 use Rattle.spi.specs.Transfer.{isUnderWay, edgedOf}
 use Rattle.spi.specs.Unit.{differs, isRequested}
 use Rattle.spi.specs.Clock.{completedFlags, masterOf, isEdge, presentedOf, selectedOf, slaveOf, steppedOf}
@@ -45,7 +45,7 @@ polled =
     read Spsr ∷ clocks (levels true false false true) 9 (read Spsr ∷ write Spdr 85 ∷ clocks (levels false false false true) 12 (write Spcr 80 ∷ vector ∷ read Spsr ∷ clocks (levels true true true true) 10 []))
 
 pub master-witness : Exchanges (modeOf (unit 124 44 0 .control)) (writeSpdr (unit 124 44 0) 167) 167 (polled ++ (clock (levels true false true true) ∷ []))
-unfolding unit levels clocks polled outBit shiftedIn isSampling isPutting edgeOf numberOf isUnderWay edgedOf isRequested completedFlags masterOf steppedOf writeSpcr startedOf loadedOf vectorOf
+unfolding unit levels clocks polled outBit shiftedIn isSampling isPutting edgeOf divisorNumber isUnderWay edgedOf isRequested completedFlags masterOf steppedOf writeSpcr startedOf loadedOf vectorOf
 master-witness =
     master-exchanges (unit 124 44 0) 167 polled (levels true false true true) (record { enabled = refl; master = refl; idle = refl; byte = lit< tt }) refl refl
 
@@ -61,12 +61,12 @@ sensed =
     toggled (suc n) false = clock (levels false false false false) ∷ toggled n true
 
 pub slave-witness : Exchanges (modeOf (unit 64 16 60 .control)) (unit 64 16 60) 60 sensed
-unfolding unit levels clocks sensed outBit shiftedIn isSampling isPutting edgeOf numberOf isUnderWay edgedOf differs completedFlags isEdge presentedOf selectedOf slaveOf steppedOf loadedOf
+unfolding unit levels clocks sensed outBit shiftedIn isSampling isPutting edgeOf divisorNumber isUnderWay edgedOf differs completedFlags isEdge presentedOf selectedOf slaveOf steppedOf loadedOf
 slave-witness = slave-exchanges (unit 64 16 60) sensed (record { enabled = refl; slave = refl; idle = refl; byte = lit< tt }) refl refl
 
 -- a master of mode 0, divisor 4, and a slave that is clocked after it each time
 pub wired-witness : Swapped (finalPair (record { master = writeSpdr (unit 80 40 0) 167; slave = unit 64 16 60 }) (inTurn 32)) 167 60
-unfolding unit outBit numberOf isUnderWay
+unfolding unit outBit divisorNumber isUnderWay
 wired-witness =
     wired-in-turn (unit 80 40 0) (unit 64 16 60) 167 (record { enabled = refl; master = refl; idle = refl; byte = lit< tt })
     (record { enabledMaster = refl; enabledSlave = refl; master = refl; slave = refl; mode = refl; cpol = refl; mosi = refl; sck = refl; miso = refl })

@@ -27,12 +27,12 @@ abbrev pub modeOf : Control → Mode
 modeOf c = record { cpha = eqb (c .spcr / 4 % 2) 1; dord = eqb (c .spcr / 32 % 2) 1 }
 
 -- SPI2X, SPR1, SPR0
-unfoldable pub numberOf : Control → ℕ
-numberOf c = pick (c .spi2x) (4 + c .spcr % 4) (c .spcr % 4)
+unfoldable pub divisorNumber : Control → ℕ
+divisorNumber c = pick (c .spi2x) (4 + c .spcr % 4) (c .spcr % 4)
 
 -- h
 abbrev pub half : Control → ℕ
-half c = halfOf (numberOf c)
+half c = halfOf (divisorNumber c)
 
 -- MSTR cleared
 abbrev pub withoutMstr : Control → Control

@@ -4,7 +4,7 @@ use mathlib.Core.Bool.{Bool, false, not, _&&_}
 use lib.Dec.{eqb}
 use Rattle.choice.specs.Pick.{digit}
 use Rattle.spi.specs.Transfer.{isUnderWay as isTransferring}
-use Rattle.spi.specs.Register.{numberOf}
+use Rattle.answer.specs.Number.{numberOf}
 use Rattle.spi.specs.declared.unit.Spi.{Spi}
 use Rattle.spi.specs.declared.register.Register.{Register}
 use Rattle.spi.specs.declared.register.Register.the-variants.{Spcr, Spsr, Spdr, Ddrb}

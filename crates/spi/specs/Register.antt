@@ -16,15 +16,9 @@ use Rattle.spi.specs.declared.unit.Spi.{Spi}
 use Rattle.spi.specs.declared.register.Reading.{Reading}
 use Rattle.spi.specs.declared.register.Register.{Register}
 use Rattle.spi.specs.declared.register.Register.the-variants.{Spcr, Spsr, Spdr, Ddrb}
-use Rattle.spi.specs.declared.register.Refusal.{Refusal}
-use Rattle.spi.specs.declared.register.Refusal.the-variants.{UnderWay, Unrequested}
+use Rattle.answer.specs.declared.Refusal.the-variants.{UnderWay, Unrequested}
 use Rattle.spi.specs.declared.register.Written.{Written}
 use Rattle.spi.specs.declared.register.Written.the-variants.{Done, Refused}
-
--- the rig's numbers: setting changed while a transfer is under way; vector taken without its request
-abbrev pub numberOf : Refusal → ℕ
-numberOf UnderWay = 4
-numberOf Unrequested = 8
 
 -- a refused access leaves the unit as it was
 abbrev pub settled : Spi → Written → Spi

@@ -1,6 +1,6 @@
 use shifter::Mode;
 ghost use mathlib.Core.Path.{_≡_};
-ghost use Rattle.spi.specs.Control.{isEnabled, isMaster, cpolOf, modeOf, numberOf, withoutMstr, isInput, isOverruled, isCommanding};
+ghost use Rattle.spi.specs.Control.{isEnabled, isMaster, cpolOf, modeOf, divisorNumber, withoutMstr, isInput, isOverruled, isCommanding};
 
 // SPCR, SPI2X of SPSR, and DDRB.
 pub struct Control {
@@ -43,7 +43,7 @@ impl Control {
 
     // SPI2X, SPR1 and SPR0 as a number.
     pub fn divisor_number(self) -> u8
-        ensures { λ r. ⌜ r ≡ numberOf self ⌝ }
+        ensures { λ r. ⌜ r ≡ divisorNumber self ⌝ }
     {
         if self.spi2x {
             return 4 + self.spcr % 4;

@@ -15,7 +15,6 @@ pub use divisor::half;
 pub use flag::Flag;
 pub use flag::Flags;
 pub use register::Reading;
-pub use register::Refusal;
 pub use register::Register;
 pub use register::Written;
 pub use transfer::Transfer;

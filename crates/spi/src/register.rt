@@ -7,24 +7,17 @@ use crate::transfer::Transfer;
 use crate::unit::Pins;
 use crate::unit::Spi;
 use crate::unit::differs;
+use answer::Refusal;
 use choice::digit;
 ghost use mathlib.Core.Path.{_≡_};
 ghost use Rattle.spi.specs.Unit.{resetSpi};
-ghost use Rattle.spi.specs.Register.{numberOf, withControl, withFlags, setSpcr, writeSpcr, setSpi2x, writeSpsr, filled, withMosi, startedOf, loadedOf, accessed, setDdrb, writeOf, spsr, readOf, vectorOf};
+ghost use Rattle.spi.specs.Register.{withControl, withFlags, setSpcr, writeSpcr, setSpi2x, writeSpsr, filled, withMosi, startedOf, loadedOf, accessed, setDdrb, writeOf, spsr, readOf, vectorOf};
 
 pub enum Register {
     Spcr,
     Spsr,
     Spdr,
     Ddrb,
-}
-
-// Why an access is refused.
-pub enum Refusal {
-    // A setting changed while a transfer is under way.
-    UnderWay,
-    // A vector taken without its request.
-    Unrequested,
 }
 
 pub enum Written {
@@ -36,17 +29,6 @@ pub enum Written {
 pub struct Reading {
     pub value: u8,
     pub spi: Spi,
-}
-
-impl Refusal {
-    pub fn number(self) -> u8
-        ensures { λ r. ⌜ r ≡ numberOf self ⌝ }
-    {
-        match self {
-            Refusal::UnderWay => 4,
-            Refusal::Unrequested => 8,
-        }
-    }
 }
 
 impl Spi {

@@ -24,7 +24,7 @@ use Rattle.usart.specs.declared.settings.Coded.the-variants.{Known, Rese
 use Rattle.usart.specs.declared.unit.Usart.{Usart}
 use Rattle.usart.specs.declared.write.Register.{Register}
 use Rattle.usart.specs.declared.write.Register.the-variants.{Ucsr0a, Ucsr0b, Ucsr0c, Ubrr0l, Ubrr0h, Udr0}
-use Rattle.usart.specs.declared.write.Refusal.the-variants.{Reserved, Unmodelled, UnderWay, Unrequested}
+use Rattle.answer.specs.declared.Refusal.the-variants.{Reserved, Unmodelled, UnderWay, Unrequested}
 use Rattle.usart.specs.declared.write.Written.{Written}
 use Rattle.usart.specs.declared.write.Written.the-variants.{Done, Refused}
 

@@ -3,10 +3,10 @@
 use Prim.Native.Nat.{ℕ, _+_, _*_, _/_, _%_}
 use mathlib.Core.Bool.{Bool, true, false, not, _&&_, _||_}
 use lib.Dec.{eqb}
+use Rattle.answer.specs.Number.{numberOf}
 use Rattle.choice.specs.Pick.{digit}
 use Rattle.usart.specs.Unit.{isBusy}
 use Rattle.usart.specs.Settings.{codeOf, upmOf}
-use Rattle.usart.specs.Write.{numberOf}
 use Rattle.usart.specs.declared.unit.Usart.{Usart}
 use Rattle.usart.specs.declared.write.Register.{Register}
 use Rattle.usart.specs.declared.write.Register.the-variants.{Ucsr0a, Ucsr0b, Ucsr0c, Ubrr0l, Ubrr0h, Udr0}

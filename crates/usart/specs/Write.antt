@@ -2,6 +2,7 @@
 use Prim.Native.Nat.{ℕ, _+_, _*_, _/_, _%_}
 use mathlib.Core.Bool.{Bool, true}
 use lib.Dec.{eqb, leb}
+use Rattle.answer.specs.declared.Refusal.the-variants.{Reserved, Unmodelled, UnderWay, Unrequested}
 use Rattle.choice.specs.Pick.{pick, digit}
 use Rattle.frame.specs.Word.{dataOf}
 use Rattle.frame.specs.declared.format.Size.{Size}
@@ -19,17 +20,8 @@ use Rattle.usart.specs.declared.unit.Control.{Control}
 use Rattle.usart.specs.declared.unit.Usart.{Usart}
 use Rattle.usart.specs.declared.write.Register.{Register}
 use Rattle.usart.specs.declared.write.Register.the-variants.{Ucsr0a, Ucsr0b, Ucsr0c, Ubrr0l, Ubrr0h, Udr0}
-use Rattle.usart.specs.declared.write.Refusal.{Refusal}
-use Rattle.usart.specs.declared.write.Refusal.the-variants.{Reserved, Unmodelled, UnderWay, Unrequested}
 use Rattle.usart.specs.declared.write.Written.{Written}
 use Rattle.usart.specs.declared.write.Written.the-variants.{Done, Refused}
-
--- the rig's numbers: reserved setting; mode not modelled; setting changed while a frame is under way; vector taken without its request
-abbrev pub numberOf : Refusal → ℕ
-numberOf Reserved = 2
-numberOf Unmodelled = 3
-numberOf UnderWay = 4
-numberOf Unrequested = 8
 
 abbrev pub withSender : Usart → Sender → Usart
 withSender u s = record { baud = u .baud; format = u .format; control = u .control; sender = s; receiver = u .receiver }

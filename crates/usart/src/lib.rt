@@ -36,6 +36,5 @@ pub use settings::size_of;
 pub use settings::upm;
 pub use unit::Control;
 pub use unit::Usart;
-pub use write::Refusal;
 pub use write::Register;
 pub use write::Written;

@@ -7,11 +7,12 @@ use crate::settings::size_code;
 use crate::settings::size_of;
 use crate::unit::Control;
 use crate::unit::Usart;
+use answer::Refusal;
 use choice::digit;
 use frame::Format;
 use frame::Size;
 ghost use mathlib.Core.Path.{_≡_};
-ghost use Rattle.usart.specs.Write.{numberOf, withSender, withFormat, withBaud, clearedOf, formattedOf, writeA, controlled, sizedB, writeB, isReservedC, sizedC, writeC, timedOf, writeL, writeH, transmittedOf, writeOf, vectorOf};
+ghost use Rattle.usart.specs.Write.{withSender, withFormat, withBaud, clearedOf, formattedOf, writeA, controlled, sizedB, writeB, isReservedC, sizedC, writeC, timedOf, writeL, writeH, transmittedOf, writeOf, vectorOf};
 
 pub enum Register {
     Ucsr0a,
@@ -22,34 +23,9 @@ pub enum Register {
     Udr0,
 }
 
-// Why an access is refused.
-pub enum Refusal {
-    // A reserved setting.
-    Reserved,
-    // A mode that is not modelled.
-    Unmodelled,
-    // A setting changed while a frame is under way.
-    UnderWay,
-    // A vector taken without its request.
-    Unrequested,
-}
-
 pub enum Written {
     Done(Usart),
     Refused(Refusal),
-}
-
-impl Refusal {
-    pub fn number(self) -> u8
-        ensures { λ r. ⌜ r ≡ numberOf self ⌝ }
-    {
-        match self {
-            Refusal::Reserved => 2,
-            Refusal::Unmodelled => 3,
-            Refusal::UnderWay => 4,
-            Refusal::Unrequested => 8,
-        }
-    }
 }
 
 impl Usart {

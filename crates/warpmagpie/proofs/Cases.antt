@@ -7,15 +7,16 @@ use lib.Dec.{eqb}
 use lib.ListN.{length}
 use borrow.Author.Tests.{eq-eqb, ne-eqb}
 use Rattle.choice.specs.Pick.{pick}
-use Rattle.device.specs.Answer.{numberOf, answerOf, readAnswerOf, valueOf}
+use Rattle.answer.specs.Number.{numberOf}
+use Rattle.device.specs.Outcome.{answerOf, readAnswerOf, valueOf}
 use Rattle.device.specs.Register.{writeOf, readOf, vectorOf}
 use Rattle.device.specs.Run.{ranOf, outputsOf, areLevels}
 use Rattle.device.specs.Unit.{resetDevice, requestsOf}
-use Rattle.device.specs.declared.answer.Refusal.the-variants.{Record, Length, Level}
-use Rattle.device.specs.declared.answer.Written.{Written}
-use Rattle.device.specs.declared.answer.Written.the-variants.{Done, Refused}
-use Rattle.device.specs.declared.answer.Reading.{Reading}
-use Rattle.device.specs.declared.answer.Reading.the-variants.{Done as Value, Refused as NoValue}
+use Rattle.answer.specs.declared.Refusal.the-variants.{Record, Length, Level}
+use Rattle.device.specs.declared.outcome.Written.{Written}
+use Rattle.device.specs.declared.outcome.Written.the-variants.{Done, Refused}
+use Rattle.device.specs.declared.outcome.Reading.{Reading}
+use Rattle.device.specs.declared.outcome.Reading.the-variants.{Done as Value, Refused as NoValue}
 use Rattle.device.specs.declared.unit.Device.{Device}
 use Rattle.record.specs.Codec.{decodeOf, recordOf, storedOf}
 use Rattle.record.specs.declared.codec.Decoded.{Decoded}

@@ -1,10 +1,10 @@
 -- What is put back over a record's bytes: on a record of 64 bytes it is what `kept` says.
 use Prim.Native.Nat.{ℕ}
 use mathlib.Core.List.{List}
-use Rattle.device.specs.declared.answer.Written.{Written}
-use Rattle.device.specs.declared.answer.Written.the-variants.{Done, Refused}
-use Rattle.device.specs.declared.answer.Reading.{Reading}
-use Rattle.device.specs.declared.answer.Reading.the-variants.{Done as Value, Refused as NoValue}
+use Rattle.device.specs.declared.outcome.Written.{Written}
+use Rattle.device.specs.declared.outcome.Written.the-variants.{Done, Refused}
+use Rattle.device.specs.declared.outcome.Reading.{Reading}
+use Rattle.device.specs.declared.outcome.Reading.the-variants.{Done as Value, Refused as NoValue}
 use Rattle.record.specs.Codec.{storedOf}
 
 abbrev pub putBack : Written → List ℕ → List ℕ

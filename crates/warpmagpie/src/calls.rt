@@ -1,10 +1,10 @@
 use device::Device;
 use device::Reading;
-use device::Refusal;
+use answer::Refusal;
 use device::Written;
 use record::Decoded;
 ghost use mathlib.Core.Path.{_≡_};
-ghost use Rattle.device.specs.Answer.{numberOf, answerOf, readAnswerOf, valueOf};
+ghost use Rattle.device.specs.Outcome.{answerOf, readAnswerOf, valueOf};
 ghost use Rattle.warpmagpie.specs.Calls.{resetAnswer, recordAfterReset, writeAnswer, recordAfterWrite, readAnswer, readValue, recordAfterRead, vectorAnswer, recordAfterVector, requestsAnswer, requestsValue};
 ghost use Rattle.warpmagpie.specs.PutBack.{putBack, putBackRead};
 

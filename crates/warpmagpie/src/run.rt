@@ -1,5 +1,5 @@
 use crate::clocks::clocks;
-use device::Refusal;
+use answer::Refusal;
 use record::Decoded;
 ghost use mathlib.Core.Path.{_≡_};
 ghost use Rattle.device.specs.Run.{areLevels};

@@ -1,6 +1,6 @@
 use mathlib.Core.Path.{refl}
 use Rattle.choice.proofs.Picks.{pick-true, pick-false}
-use Rattle.spi.specs.Control.{numberOf}
+use Rattle.spi.specs.Control.{divisorNumber}
 use borrow.Author.Needs.{needs}
 use Rattle.spi.proofs.control.Control.divisor_number.Statement.{statement}
 use Rattle.spi.proofs.control.Control.divisor_number.Tie as tie
@@ -9,11 +9,11 @@ add-result : tie.Need-add-result
 add-result c = search needs
 
 returns : tie.Need-returns
-unfolding numberOf
+unfolding divisorNumber
 returns c = (pick-true _ _ _ _ (c .before .if1 .taken) refl)
 
 returns-2 : tie.Need-returns-2
-unfolding numberOf
+unfolding divisorNumber
 returns-2 c = (pick-false _ _ _ _ (c .before .if1 .left) refl)
 
 pub divisor-number-spec : {M : Type 1} → statement M

@@ -1,8 +1,8 @@
-use crate::unit::Device;
+// What a rig is answered: why a call is refused, and the number for it. It knows nothing of what is refused.
 ghost use mathlib.Core.Path.{_≡_};
-ghost use Rattle.device.specs.Answer.{numberOf, ofSerial, ofSpi};
+ghost use Rattle.answer.specs.Number.{numberOf};
 
-// Why a call is refused.
+// Document 01's refusals. Document 02 adds the numbers 9 to 12, each with the request that first answers it.
 pub enum Refusal {
     // No such register address or vector.
     Unknown,
@@ -22,17 +22,6 @@ pub enum Refusal {
     Unrequested,
 }
 
-pub enum Written {
-    Done(Device),
-    Refused(Refusal),
-}
-
-pub enum Reading {
-    // The value, and the device after the read.
-    Done(u8, Device),
-    Refused(Refusal),
-}
-
 impl Refusal {
     // The number that the rig sees.
     pub fn number(self) -> u8
@@ -47,26 +36,6 @@ impl Refusal {
             Refusal::Length => 6,
             Refusal::Level => 7,
             Refusal::Unrequested => 8,
-        }
-    }
-
-    pub fn of_serial(r: usart::Refusal) -> Refusal
-        ensures { λ s. ⌜ s ≡ ofSerial r ⌝ }
-    {
-        match r {
-            usart::Refusal::Reserved => Refusal::Reserved,
-            usart::Refusal::Unmodelled => Refusal::Unmodelled,
-            usart::Refusal::UnderWay => Refusal::UnderWay,
-            usart::Refusal::Unrequested => Refusal::Unrequested,
-        }
-    }
-
-    pub fn of_spi(r: spi::Refusal) -> Refusal
-        ensures { λ s. ⌜ s ≡ ofSpi r ⌝ }
-    {
-        match r {
-            spi::Refusal::UnderWay => Refusal::UnderWay,
-            spi::Refusal::Unrequested => Refusal::Unrequested,
         }
     }
 }

@@ -1,0 +1,14 @@
+-- The numbers of the refusals (document 01, 'Numbers the rig sees'). 0 is done; 9 to 12 are document 02's.
+use Prim.Native.Nat.{ℕ}
+use Rattle.answer.specs.declared.Refusal.{Refusal}
+use Rattle.answer.specs.declared.Refusal.the-variants.{Unknown, Reserved, Unmodelled, UnderWay, Record, Length, Level, Unrequested}
+
+abbrev pub numberOf : Refusal → ℕ
+numberOf Unknown = 1
+numberOf Reserved = 2
+numberOf Unmodelled = 3
+numberOf UnderWay = 4
+numberOf Record = 5
+numberOf Length = 6
+numberOf Level = 7
+numberOf Unrequested = 8

@@ -1,0 +1,13 @@
+use answer::Refusal;
+use crate::unit::Device;
+
+pub enum Written {
+    Done(Device),
+    Refused(Refusal),
+}
+
+pub enum Reading {
+    // The value, and the device after the read.
+    Done(u8, Device),
+    Refused(Refusal),
+}
