@@ -3,7 +3,6 @@ use Rattle.device.proofs.unit.Device.serial_written.Statement.{statemen
 use Rattle.device.proofs.unit.Device.serial_written.Tie as tie
 use Rattle.device.proofs.unit.Device.serial_written.Reads as reads
 use Rattle.device.proofs.unit.Device.serial_written.Lts as lts
-use Rattle.device.proofs.answer.Refusal.of_serial.Reads as of-serial-reads
 use Rattle.device.proofs.unit.Device.with_usart.Reads as with-usart-reads
 
 enum-known-w : tie.Need-enum-known-w
@@ -15,16 +14,13 @@ with-usart-requires c κs = search needs
 enum-known-w-2 : tie.Need-enum-known-w-2
 enum-known-w-2 c = search needs
 
-of-serial-requires : tie.Need-of-serial-requires
-of-serial-requires c κs = search needs
-
 returns : tie.Need-returns
 returns c = rw (c .before .before .w .given .1, c .with-usart .ensures)
 
 returns-2 : tie.Need-returns-2
-returns-2 c = rw (c .before .before .w2 .given .1, c .of-serial .ensures)
+returns-2 c = rw (c .before .w2 .given .1)
 
 pub serial-written-spec : {M : Type 1} → statement M
 serial-written-spec =
     tie.close
-    (tie.spec enum-known-w with-usart-requires enum-known-w-2 of-serial-requires returns returns-2)
+    (tie.spec enum-known-w with-usart-requires enum-known-w-2 returns returns-2)
