@@ -10,14 +10,14 @@ static const char *answer_name(uint8_t answer)
 {
     switch (answer) {
     case WARPMAGPIE_DONE: return "done";
-    case WARPMAGPIE_UNKNOWN: return "no such register address or vector";
-    case WARPMAGPIE_RESERVED: return "reserved setting";
-    case WARPMAGPIE_UNMODELLED: return "mode not modelled";
-    case WARPMAGPIE_UNDER_WAY: return "setting changed while a frame or transfer is under way";
-    case WARPMAGPIE_RECORD: return "not a record";
-    case WARPMAGPIE_LENGTH: return "outputs not as long as levels";
-    case WARPMAGPIE_LEVEL: return "level byte with bit 5, 6 or 7 set";
-    case WARPMAGPIE_UNREQUESTED: return "vector taken without its request";
+    case WARPMAGPIE_REFUSED_UNKNOWN: return "no such register address or vector";
+    case WARPMAGPIE_REFUSED_RESERVED: return "reserved setting";
+    case WARPMAGPIE_REFUSED_UNMODELLED: return "mode not modelled";
+    case WARPMAGPIE_REFUSED_UNDER_WAY: return "setting changed while a frame or transfer is under way";
+    case WARPMAGPIE_REFUSED_RECORD: return "not a record";
+    case WARPMAGPIE_REFUSED_LENGTH: return "outputs not as long as levels";
+    case WARPMAGPIE_REFUSED_LEVEL: return "level byte with bit 5, 6 or 7 set";
+    case WARPMAGPIE_REFUSED_UNREQUESTED: return "vector taken without its request";
     default: return "unknown answer";
     }
 }

@@ -18,17 +18,18 @@ extern "C" {
 
 #define WARPMAGPIE_RECORD_LEN 64
 
-/* Answers. Where more than one refusal applies, the order is 5, 1, 2, 3, 4; for a run 5, 6, 7; for a vector 5, 1, 8. */
+/* Answers. Where more than one refusal applies, the order is 5, 1, 2, 3, 4; for a run 5, 6, 7; for a vector 5, 1, 8.
+   Numbers 9 to 12 are kept for requests to come. */
 enum warpmagpie_answer {
     WARPMAGPIE_DONE = 0,
-    WARPMAGPIE_UNKNOWN = 1,     /* no such register address or vector */
-    WARPMAGPIE_RESERVED = 2,    /* reserved setting */
-    WARPMAGPIE_UNMODELLED = 3,  /* mode not modelled */
-    WARPMAGPIE_UNDER_WAY = 4,   /* setting changed while a frame or transfer is under way */
-    WARPMAGPIE_RECORD = 5,      /* record not 64 bytes, a field out of its range, or an unused byte not zero */
-    WARPMAGPIE_LENGTH = 6,      /* output slice not as long as the level slice */
-    WARPMAGPIE_LEVEL = 7,       /* a level byte with bit 5, 6 or 7 set */
-    WARPMAGPIE_UNREQUESTED = 8  /* vector taken without its request */
+    WARPMAGPIE_REFUSED_UNKNOWN = 1,     /* no such register address or vector */
+    WARPMAGPIE_REFUSED_RESERVED = 2,    /* reserved setting */
+    WARPMAGPIE_REFUSED_UNMODELLED = 3,  /* mode not modelled */
+    WARPMAGPIE_REFUSED_UNDER_WAY = 4,   /* setting changed while a frame or transfer is under way */
+    WARPMAGPIE_REFUSED_RECORD = 5,      /* record not 64 bytes, a field out of its range, or an unused byte not zero */
+    WARPMAGPIE_REFUSED_LENGTH = 6,      /* output slice not as long as the level slice */
+    WARPMAGPIE_REFUSED_LEVEL = 7,       /* a level byte with bit 5, 6 or 7 set */
+    WARPMAGPIE_REFUSED_UNREQUESTED = 8  /* vector taken without its request */
 };
 
 /* Register addresses, in data space. */

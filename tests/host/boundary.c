@@ -204,7 +204,7 @@ static void refuses_record(enum call which, struct piece *record, bool right, si
     struct arguments with = arguments(right, record->guard);
     bool answers = which == READ || which == REQUESTS;
     uint8_t wanted = answers ? 0 : GUARD;
-    expect(CALL_NAMES[which], place, call(which, record, &with), WARPMAGPIE_RECORD);
+    expect(CALL_NAMES[which], place, call(which, record, &with), WARPMAGPIE_REFUSED_RECORD);
     untouched("record of a refused call", place, record);
     untouched("levels of a refused call", place, &with.levels);
     untouched("outputs of a refused call", place, &with.outputs);
@@ -271,7 +271,7 @@ static void calls_agree(const struct plan *plan)
                 struct piece record = make(good, sizeof good, sizeof good, plan->guard);
                 struct arguments with = arguments(true, plan->guard);
                 record.bytes[place] = (uint8_t)value;
-                refused += call(which, &record, &with) == WARPMAGPIE_RECORD;
+                refused += call(which, &record, &with) == WARPMAGPIE_REFUSED_RECORD;
                 drop_arguments(&with);
                 drop(&record);
             }
@@ -333,7 +333,7 @@ static void run_of(const struct plan *plan, uint64_t *random, size_t levels_len,
     } else {
         if (levels_len % 2 == 1) /* 6 comes before 7 */
             levels.bytes[levels_len - 1] = levels.before[plan->guard + levels_len - 1] = LEVEL_LAST_BAD;
-        expect("run", levels_len, run(&record, &levels, &outputs), WARPMAGPIE_LENGTH);
+        expect("run", levels_len, run(&record, &levels, &outputs), WARPMAGPIE_REFUSED_LENGTH);
         untouched("record after answer 6", levels_len, &record);
         untouched("outputs after answer 6", levels_len, &outputs);
     }
@@ -368,7 +368,7 @@ static void bad_levels(const struct plan *plan)
             for (unsigned bad = LEVEL_FIRST_BAD; bad <= LEVEL_LAST_BAD; bad *= 2) {
                 uint8_t kept = levels.bytes[place];
                 levels.bytes[place] = kept | (uint8_t)bad;
-                expect("run with a bad level", place, run(&record, &levels, &outputs), WARPMAGPIE_LEVEL);
+                expect("run with a bad level", place, run(&record, &levels, &outputs), WARPMAGPIE_REFUSED_LEVEL);
                 untouched("record after answer 7", place, &record);
                 untouched("outputs after answer 7", place, &outputs);
                 levels.bytes[place] = kept;
@@ -407,7 +407,7 @@ static bool is_register(unsigned address)
 /* Zero may be written to every register of the sample: nothing is under way in it. */
 static void address_of(const struct plan *plan, const uint8_t *good, unsigned address)
 {
-    uint8_t answer = is_register(address) ? WARPMAGPIE_DONE : WARPMAGPIE_UNKNOWN;
+    uint8_t answer = is_register(address) ? WARPMAGPIE_DONE : WARPMAGPIE_REFUSED_UNKNOWN;
     struct arguments with = arguments(true, plan->guard);
     with.address = (uint16_t)address;
     with.value = 0;
@@ -440,8 +440,8 @@ static void vectors(const struct plan *plan)
     uint8_t bytes[WARPMAGPIE_RECORD_LEN];
     for (int requested = 0; requested <= 1; requested++)
         for (unsigned vector = 0; vector < BYTES; vector++) {
-            uint8_t known = requested ? WARPMAGPIE_DONE : WARPMAGPIE_UNREQUESTED;
-            uint8_t answer = vector <= WARPMAGPIE_VECTOR_SPIF ? known : WARPMAGPIE_UNKNOWN;
+            uint8_t known = requested ? WARPMAGPIE_DONE : WARPMAGPIE_REFUSED_UNREQUESTED;
+            uint8_t answer = vector <= WARPMAGPIE_VECTOR_SPIF ? known : WARPMAGPIE_REFUSED_UNKNOWN;
             sample(bytes);
             if (!requested)
                 expect("reset", vector, warpmagpie_reset(bytes, sizeof bytes), WARPMAGPIE_DONE);
@@ -452,7 +452,7 @@ static void vectors(const struct plan *plan)
             } else {
                 holds("record after a vector", vector, &record, record.bytes);
                 expect("the same vector again", vector, warpmagpie_take_vector(record.bytes, record.len, (uint8_t)vector),
-                       WARPMAGPIE_UNREQUESTED);
+                       WARPMAGPIE_REFUSED_UNREQUESTED);
             }
             drop(&record);
         }

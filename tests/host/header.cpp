@@ -23,7 +23,8 @@ int main()
     expect("write", warpmagpie_write(record, sizeof record, WARPMAGPIE_UCSR0B, WARPMAGPIE_UDRIE | WARPMAGPIE_TXEN), WARPMAGPIE_DONE);
     expect("read", warpmagpie_read(record, sizeof record, WARPMAGPIE_UCSR0A, &value), WARPMAGPIE_DONE);
     expect("UCSR0A", value, WARPMAGPIE_UDRE);
-    expect("vector", warpmagpie_take_vector(record, sizeof record, WARPMAGPIE_VECTOR_TXC), WARPMAGPIE_UNREQUESTED);
+    expect("vector", warpmagpie_take_vector(record, sizeof record, WARPMAGPIE_VECTOR_TXC),
+           WARPMAGPIE_REFUSED_UNREQUESTED);
     expect("run", warpmagpie_run(record, sizeof record, &level, 1, &output, 1), WARPMAGPIE_DONE);
     expect("output", output, WARPMAGPIE_DRIVES_TXD | WARPMAGPIE_OUTPUT_TXD);
     expect("requests", warpmagpie_requests(record, sizeof record, &requests), WARPMAGPIE_DONE);

@@ -103,26 +103,29 @@ static void refusals(void)
     uint8_t before[WARPMAGPIE_RECORD_LEN], levels[3] = {1, 0x20, 1}, outputs[3] = {7, 7, 7}, value = 9;
     done("reset", warpmagpie_reset(record, sizeof record));
     memcpy(before, record, sizeof before);
-    expect("unknown address", warpmagpie_write(record, sizeof record, 0xC3, 0), WARPMAGPIE_UNKNOWN);
-    expect("reserved setting", warpmagpie_write(record, sizeof record, WARPMAGPIE_UCSR0C, 0x16), WARPMAGPIE_RESERVED);
-    expect("mode not modelled", warpmagpie_write(record, sizeof record, WARPMAGPIE_UCSR0C, 0x46), WARPMAGPIE_UNMODELLED);
-    expect("unknown vector", warpmagpie_take_vector(record, sizeof record, 2), WARPMAGPIE_UNKNOWN);
-    expect("vector without request", warpmagpie_take_vector(record, sizeof record, 0), WARPMAGPIE_UNREQUESTED);
-    expect("lengths", warpmagpie_run(record, sizeof record, levels, 3, outputs, 2), WARPMAGPIE_LENGTH);
-    expect("levels", warpmagpie_run(record, sizeof record, levels, 3, outputs, 3), WARPMAGPIE_LEVEL);
+    expect("unknown address", warpmagpie_write(record, sizeof record, 0xC3, 0), WARPMAGPIE_REFUSED_UNKNOWN);
+    expect("reserved setting", warpmagpie_write(record, sizeof record, WARPMAGPIE_UCSR0C, 0x16),
+           WARPMAGPIE_REFUSED_RESERVED);
+    expect("mode not modelled", warpmagpie_write(record, sizeof record, WARPMAGPIE_UCSR0C, 0x46),
+           WARPMAGPIE_REFUSED_UNMODELLED);
+    expect("unknown vector", warpmagpie_take_vector(record, sizeof record, 2), WARPMAGPIE_REFUSED_UNKNOWN);
+    expect("vector without request", warpmagpie_take_vector(record, sizeof record, 0), WARPMAGPIE_REFUSED_UNREQUESTED);
+    expect("lengths", warpmagpie_run(record, sizeof record, levels, 3, outputs, 2), WARPMAGPIE_REFUSED_LENGTH);
+    expect("levels", warpmagpie_run(record, sizeof record, levels, 3, outputs, 3), WARPMAGPIE_REFUSED_LEVEL);
     expect("outputs untouched", outputs[0] + outputs[1] + outputs[2], 21);
     done("no clocks", warpmagpie_run(record, sizeof record, levels, 0, outputs, 0));
-    expect("short record", warpmagpie_read(record, 63, WARPMAGPIE_UCSR0A, &value), WARPMAGPIE_RECORD);
+    expect("short record", warpmagpie_read(record, 63, WARPMAGPIE_UCSR0A, &value), WARPMAGPIE_REFUSED_RECORD);
     expect("value of a refused read", value, 0);
     expect("record untouched", (unsigned)memcmp(before, record, sizeof before), 0);
     record[63] = 1;
-    expect("stray byte", warpmagpie_requests(record, sizeof record, &value), WARPMAGPIE_RECORD);
+    expect("stray byte", warpmagpie_requests(record, sizeof record, &value), WARPMAGPIE_REFUSED_RECORD);
     done("reset of any bytes", warpmagpie_reset(record, sizeof record));
     expect("record after reset", (unsigned)memcmp(before, record, sizeof before), 0);
     put(WARPMAGPIE_UCSR0B, WARPMAGPIE_TXEN);
     put(WARPMAGPIE_UDR0, 0x55);
     memcpy(before, record, sizeof before);
-    expect("setting under way", warpmagpie_write(record, sizeof record, WARPMAGPIE_UBRR0L, 7), WARPMAGPIE_UNDER_WAY);
+    expect("setting under way", warpmagpie_write(record, sizeof record, WARPMAGPIE_UBRR0L, 7),
+           WARPMAGPIE_REFUSED_UNDER_WAY);
     expect("record untouched", (unsigned)memcmp(before, record, sizeof before), 0);
     puts("refusals 1 to 8: numbers as given, nothing touched");
 }
