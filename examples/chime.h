@@ -2,7 +2,7 @@
 #ifndef EXAMPLES_CHIME_H
 #define EXAMPLES_CHIME_H
 
-#include "bench.h"
+#include "circuit.h"
 
 enum {
     CHIME_PAYLOAD_MAX = 32, /* the longest that it takes */
@@ -27,6 +27,6 @@ struct report {
     bool accepted;
 };
 
-void chime_receive(struct bench *bench, const struct slot *slot, struct report *report);
+void chime_receive(struct circuit *circuit, const struct slot *slot, struct report *report);
 
 #endif

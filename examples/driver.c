@@ -12,14 +12,14 @@ struct exchanged {
 };
 
 /* The rest of an exchange that a write to SPDR began. SPIF is cleared by reading SPSR with it set, then SPDR (document 01). */
-static struct exchanged finish(struct bench *bench)
+static struct exchanged finish(struct circuit *circuit)
 {
-    struct node *chime = &bench->chime;
+    struct node *chime = &circuit->chime;
     struct exchanged got = {0, 0};
     for (int clocks = 0; !(got.flags & WARPMAGPIE_SPIF); clocks++) {
         if (clocks == PATIENCE)
             node_stop(chime, "SPIF did not come");
-        bench_clock(bench);
+        circuit_clock(circuit);
         got.flags = node_read(chime, WARPMAGPIE_SPSR);
     }
     if (got.flags & WARPMAGPIE_WCOL)
@@ -28,88 +28,88 @@ static struct exchanged finish(struct bench *bench)
     return got;
 }
 
-static void send(struct bench *bench, uint8_t value)
+static void send(struct circuit *circuit, uint8_t value)
 {
-    node_write(&bench->chime, WARPMAGPIE_SPDR, value);
-    log_call(&bench->log, &bench->chime, "write", WARPMAGPIE_SPDR, value, 0);
-    finish(bench);
+    node_write(&circuit->chime, WARPMAGPIE_SPDR, value);
+    log_call(&circuit->log, &circuit->chime, "write", WARPMAGPIE_SPDR, value, 0);
+    finish(circuit);
 }
 
 /* The write of the filler is not logged, the read is. */
-static struct exchanged take(struct bench *bench)
+static struct exchanged take(struct circuit *circuit)
 {
-    node_write(&bench->chime, WARPMAGPIE_SPDR, FILLER);
-    return finish(bench);
+    node_write(&circuit->chime, WARPMAGPIE_SPDR, FILLER);
+    return finish(circuit);
 }
 
-static void log_taken(struct bench *bench, struct exchanged got)
+static void log_taken(struct circuit *circuit, struct exchanged got)
 {
-    log_call(&bench->log, &bench->chime, "read", WARPMAGPIE_SPDR, got.value, got.flags);
+    log_call(&circuit->log, &circuit->chime, "read", WARPMAGPIE_SPDR, got.value, got.flags);
 }
 
-static void send_with_address(struct bench *bench, uint8_t command, uint32_t address)
+static void send_with_address(struct circuit *circuit, uint8_t command, uint32_t address)
 {
     uint8_t head[FLASH_HEAD_LEN];
     flash_head(head, command, address);
     for (int i = 0; i < FLASH_HEAD_LEN; i++)
-        send(bench, head[i]);
+        send(circuit, head[i]);
 }
 
-static void write_enable(struct bench *bench)
+static void write_enable(struct circuit *circuit)
 {
-    bench_select_flash(bench, true);
-    send(bench, FLASH_WRITE_ENABLE);
-    bench_select_flash(bench, false);
+    circuit_select_flash(circuit, true);
+    send(circuit, FLASH_WRITE_ENABLE);
+    circuit_select_flash(circuit, false);
 }
 
 /* Only the last status is logged: the first that is not busy. */
-static void wait_while_busy(struct bench *bench)
+static void wait_while_busy(struct circuit *circuit)
 {
     struct exchanged got;
-    bench_select_flash(bench, true);
-    send(bench, FLASH_READ_STATUS);
+    circuit_select_flash(circuit, true);
+    send(circuit, FLASH_READ_STATUS);
     do
-        got = take(bench);
+        got = take(circuit);
     while (got.value & FLASH_STATUS_BUSY);
-    log_taken(bench, got);
-    bench_select_flash(bench, false);
+    log_taken(circuit, got);
+    circuit_select_flash(circuit, false);
 }
 
-void driver_program_begin(struct bench *bench, uint32_t address)
+void driver_program_begin(struct circuit *circuit, uint32_t address)
 {
-    write_enable(bench);
-    bench_select_flash(bench, true);
-    send_with_address(bench, FLASH_PAGE_PROGRAM, address);
+    write_enable(circuit);
+    circuit_select_flash(circuit, true);
+    send_with_address(circuit, FLASH_PAGE_PROGRAM, address);
 }
 
-void driver_program_byte(struct bench *bench, uint8_t value)
+void driver_program_byte(struct circuit *circuit, uint8_t value)
 {
-    send(bench, value);
+    send(circuit, value);
 }
 
-void driver_program_end(struct bench *bench)
+void driver_program_end(struct circuit *circuit)
 {
-    bench_select_flash(bench, false);
-    wait_while_busy(bench);
+    circuit_select_flash(circuit, false);
+    wait_while_busy(circuit);
 }
 
-void driver_erase(struct bench *bench, uint32_t address)
+void driver_erase(struct circuit *circuit, uint32_t address)
 {
-    write_enable(bench);
-    bench_select_flash(bench, true);
-    send_with_address(bench, FLASH_PAGE_ERASE, address);
-    bench_select_flash(bench, false);
-    wait_while_busy(bench);
+    write_enable(circuit);
+    circuit_select_flash(circuit, true);
+    send_with_address(circuit, FLASH_PAGE_ERASE, address);
+    circuit_select_flash(circuit, false);
+    wait_while_busy(circuit);
 }
 
-void driver_read(struct bench *bench, uint32_t address, uint8_t *bytes, size_t len)
+void driver_read(struct circuit *circuit, uint32_t address, uint8_t *bytes, size_t len)
 {
-    bench_select_flash(bench, true);
-    send_with_address(bench, FLASH_READ, address);
+    circuit_select_flash(circuit, true);
+    send_with_address(circuit, FLASH_READ, address);
     for (size_t i = 0; i < len; i++) {
-        struct exchanged got = take(bench);
-        log_taken(bench, got);
+        struct exchanged got = take(circuit);
+        log_taken(circuit, got);
         bytes[i] = got.value;
     }
-    bench_select_flash(bench, false);
+    circuit_select_flash(circuit, false);
 }

@@ -2,16 +2,16 @@
 #ifndef EXAMPLES_DRIVER_H
 #define EXAMPLES_DRIVER_H
 
-#include "bench.h"
+#include "circuit.h"
 
 /* Opens a page program; the data follow byte by byte, as they arrive. */
-void driver_program_begin(struct bench *bench, uint32_t address);
-void driver_program_byte(struct bench *bench, uint8_t value);
-void driver_program_end(struct bench *bench);
+void driver_program_begin(struct circuit *circuit, uint32_t address);
+void driver_program_byte(struct circuit *circuit, uint8_t value);
+void driver_program_end(struct circuit *circuit);
 
 /* Waits for the end of the erase. Nothing else is looked at meanwhile, UCSR0A neither. */
-void driver_erase(struct bench *bench, uint32_t address);
+void driver_erase(struct circuit *circuit, uint32_t address);
 
-void driver_read(struct bench *bench, uint32_t address, uint8_t *bytes, size_t len);
+void driver_read(struct circuit *circuit, uint32_t address, uint8_t *bytes, size_t len);
 
 #endif

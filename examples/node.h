@@ -1,5 +1,5 @@
-/* A device on the bench: its record, its crystal, its name; and the archive's calls on it. Each call's answer is looked at: a refusal
-   stops the program with a message that names device, call and answer. */
+/* A device of the circuit: its record, its crystal, its name; and the archive's calls on it. Each call's answer is
+   looked at: a refusal stops the program with a message that names device, call and answer. */
 #ifndef EXAMPLES_NODE_H
 #define EXAMPLES_NODE_H
 
@@ -31,7 +31,7 @@ bool node_is_next(const struct node *node, const struct node *other);
 /* Time of the last clock, rounded down. */
 uint64_t node_nanoseconds(const struct node *node);
 
-/* Ends the program with a message: for what must not happen on the bench. */
+/* Ends the program with a message: for what must not happen in the circuit. */
 _Noreturn void node_stop(const struct node *node, const char *message);
 
 const char *node_register_name(uint16_t address);

@@ -27,13 +27,13 @@ struct transfer {
     int reply; /* that the doorbell got */
 };
 
-static void run(struct bench *bench, struct transfer *transfer, const char *title)
+static void run(struct circuit *circuit, struct transfer *transfer, const char *title)
 {
-    log_title(&bench->log, title);
-    doorbell_send(&bench->doorbell, &transfer->image);
-    chime_receive(bench, transfer->slot, &transfer->report);
-    transfer->reply = bench->doorbell.reply;
-    log_gap(&bench->log);
+    log_title(&circuit->log, title);
+    doorbell_send(&circuit->doorbell, &transfer->image);
+    chime_receive(circuit, transfer->slot, &transfer->report);
+    transfer->reply = circuit->doorbell.reply;
+    log_gap(&circuit->log);
 }
 
 /* The image that was sent is in the chime's flash. */
@@ -120,7 +120,7 @@ static bool options(int argc, char **argv, enum output *output, const char **pat
 int main(int argc, char **argv)
 {
     struct transfer first = {.slot = &SLOT_1}, second = {.slot = &SLOT_2};
-    struct bench bench;
+    struct circuit circuit;
     enum output output = LOG;
     const char *path = NULL;
     if (!options(argc, argv, &output, &path)) {
@@ -129,14 +129,14 @@ int main(int argc, char **argv)
     }
     image_make(&first.image, SEED_1);
     image_make(&second.image, SEED_2);
-    bench_start(&bench, path, output == LOG ? stdout : NULL);
-    memset(bench.flash.cells + SLOT_2.address, OLD_FIRMWARE, FLASH_PAGE_LEN);
-    run(&bench, &first, "image 1: the chime reads each frame in time");
-    run(&bench, &second, "image 2: the chime is busy for some frames");
-    bench_stop(&bench);
+    circuit_start(&circuit, path, output == LOG ? stdout : NULL);
+    memset(circuit.flash.cells + SLOT_2.address, OLD_FIRMWARE, FLASH_PAGE_LEN);
+    run(&circuit, &first, "image 1: the chime reads each frame in time");
+    run(&circuit, &second, "image 2: the chime is busy for some frames");
+    circuit_stop(&circuit);
 
     if (output == SENT) {
-        printf("baud %d\n", (int)(bench.doorbell.node.hertz / SERIAL_BIT_CLOCKS));
+        printf("baud %d\n", (int)(circuit.doorbell.node.hertz / SERIAL_BIT_CLOCKS));
         print_sent(&first);
         print_sent(&second);
     } else {

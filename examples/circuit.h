@@ -1,0 +1,35 @@
+/* The circuit: both devices, the flash, the wires between them, and time.
+
+   Each device has a crystal of its own. The clock that comes next on either is the one that passes, with the levels
+   that the other side then drives. So no common clock is needed, and nothing is rounded. */
+#ifndef EXAMPLES_CIRCUIT_H
+#define EXAMPLES_CIRCUIT_H
+
+#include "doorbell.h"
+#include "flash.h"
+#include "vcd.h"
+
+struct circuit {
+    struct doorbell doorbell;
+    struct node chime;
+    struct flash flash;
+    bool flash_selected;
+    struct log log;
+    struct vcd vcd;
+};
+
+/* vcd_path may be null: no waveform. */
+void circuit_start(struct circuit *circuit, const char *vcd_path, FILE *log_to);
+
+/* Passes one clock of the chime, and those of the doorbell that come before it; the doorbell's program runs after each
+   of its own. */
+void circuit_clock(struct circuit *circuit);
+
+/* Sets the flash's chip select. The archive models SS as an input only: what the SS pin shows as an output is bit 2 of
+   PORTB, which belongs to the processor core. So the rig holds this level itself, as the core's PORTB would. A clock
+   passes, so that the flash sees it. */
+void circuit_select_flash(struct circuit *circuit, bool selected);
+
+void circuit_stop(struct circuit *circuit);
+
+#endif
