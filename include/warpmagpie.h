@@ -16,6 +16,14 @@
 extern "C" {
 #endif
 
+/* Of header, archive and pkg-config file. MAJOR rises where a rig may have to change its code or drop its stored
+   records, MINOR where there is more than before, PATCH with any other change. WARPMAGPIE_VERSION is for #if. */
+#define WARPMAGPIE_VERSION_MAJOR 1
+#define WARPMAGPIE_VERSION_MINOR 0
+#define WARPMAGPIE_VERSION_PATCH 0
+#define WARPMAGPIE_VERSION \
+    (WARPMAGPIE_VERSION_MAJOR * 10000 + WARPMAGPIE_VERSION_MINOR * 100 + WARPMAGPIE_VERSION_PATCH)
+
 #define WARPMAGPIE_RECORD_LEN 64
 
 /* Answers. Where more than one refusal applies, the order is 5, 1, 2, 3, 4; for a run 5, 6, 7; for a vector 5, 1, 8.
