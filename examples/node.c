@@ -4,23 +4,9 @@
 #include <stdio.h>
 #include <stdlib.h>
 
-static const uint64_t NANOSECONDS = 1000000000;
+#include "answers.h"
 
-static const char *answer_name(uint8_t answer)
-{
-    switch (answer) {
-    case WARPMAGPIE_DONE: return "done";
-    case WARPMAGPIE_REFUSED_UNKNOWN: return "no such register address or vector";
-    case WARPMAGPIE_REFUSED_RESERVED: return "reserved setting";
-    case WARPMAGPIE_REFUSED_UNMODELLED: return "mode not modelled";
-    case WARPMAGPIE_REFUSED_UNDER_WAY: return "setting changed while a frame or transfer is under way";
-    case WARPMAGPIE_REFUSED_RECORD: return "not a record";
-    case WARPMAGPIE_REFUSED_LENGTH: return "outputs not as long as levels";
-    case WARPMAGPIE_REFUSED_LEVEL: return "level byte with bit 5, 6 or 7 set";
-    case WARPMAGPIE_REFUSED_UNREQUESTED: return "vector taken without its request";
-    default: return "unknown answer";
-    }
-}
+static const uint64_t NANOSECONDS = 1000000000;
 
 const char *node_register_name(uint16_t address)
 {
@@ -48,11 +34,12 @@ _Noreturn void node_stop(const struct node *node, const char *message)
 
 static void check(struct node *node, const char *call, const char *place, uint8_t answer)
 {
-    char message[128];
+    char message[160];
     node->answer = answer;
     if (answer == WARPMAGPIE_DONE)
         return;
-    snprintf(message, sizeof message, "%s%s: answer %u (%s)", call, place, answer, answer_name(answer));
+    snprintf(message, sizeof message, "%s%s: answer %u, %s (%s)", call, place, answer, answer_name(answer),
+             answer_meaning(answer));
     node_stop(node, message);
 }
 
