@@ -1,4 +1,14 @@
-.PHONY: demo test compare bench refute
+.PHONY: archive install demo test compare bench refute
+
+PREFIX ?= /usr/local
+
+# Proves the crates and writes target/staticlib/libwarpmagpie.a, unless it is there and newer than every source.
+archive:
+	@bash scripts/archive.sh
+
+# Puts header, archive and a pkg-config file below PREFIX: make install PREFIX=$HOME/.local. Packagers set DESTDIR too.
+install:
+	@bash scripts/install.sh "$(PREFIX)" "$(DESTDIR)"
 
 # Builds the archive and the rig in examples/, plays both transfers and writes the waveform.
 demo:

@@ -1,6 +1,6 @@
 #!/usr/bin/env bash
-# The answers stand in three places: the header, the README's table and the table of names in examples/. They have to say
-# the same: number, name and words of each.
+# The answers stand in three places: the header, the README's table and the table of names in examples/. They have to
+# say the same: number, name and words of each.
 set -eu
 cd "$(dirname "$0")/../.."
 mkdir -p target
