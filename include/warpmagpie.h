@@ -1,11 +1,14 @@
 /* Warpmagpie: USART0 (asynchronous) and SPI of an ATmega328P, for a rig that has the processor core.
 
-   The rig lends a device as a record of 64 bytes and calls the functions below. Each answers a number (WARPMAGPIE_DONE or a
-   refusal). A refusal leaves every byte of record and outputs as it was, and puts 0 where a value is answered.
+   The rig lends a device as a record of 64 bytes and calls the functions below. Each answers a number (WARPMAGPIE_DONE
+   or a refusal). A refusal leaves every byte of record and outputs as it was, and puts 0 where a value is answered.
 
-   What C has to keep: a pointer points to as many bytes as its length says (it may be null where the length is 0), and the memory of one
-   argument does not overlap that of another. Nothing else is asked of any argument. The record's bytes are described in
-   docs/RECORD.md; a rig need not know them. A record may be copied, stored and brought back. */
+   What C has to keep: a pointer points to as many bytes as its length says (it may be null where the length is 0), and
+   the memory of one argument does not overlap that of another. Nothing else is asked of any argument. The record's
+   bytes are described in docs/RECORD.md; a rig need not know them. A record may be copied, stored and brought back.
+
+   There is no state but the record. Calls on different records may run in different threads at the same time, as long
+   as none writes memory that another was given too; calls on one record come one after the other. */
 #ifndef WARPMAGPIE_H
 #define WARPMAGPIE_H
 
