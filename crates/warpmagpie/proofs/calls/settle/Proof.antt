@@ -4,7 +4,7 @@ use Rattle.warpmagpie.proofs.calls.settle.Statement.{statement}
 use Rattle.warpmagpie.proofs.calls.settle.Tie as tie
 use Rattle.warpmagpie.proofs.calls.settle.Reads as reads
 use Rattle.warpmagpie.proofs.calls.settle.Lts as lts
-use Rattle.device.proofs.answer.Refusal.number.Reads as number-reads
+use Rattle.answer.proofs.Refusal.number.Reads as number-reads
 use Rattle.record.proofs.store.Reads as store-reads
 
 enum-known-w : tie.Need-enum-known-w

@@ -4,7 +4,7 @@ use Rattle.warpmagpie.proofs.calls.settle_read.Statement.{statement}
 use Rattle.warpmagpie.proofs.calls.settle_read.Tie as tie
 use Rattle.warpmagpie.proofs.calls.settle_read.Reads as reads
 use Rattle.warpmagpie.proofs.calls.settle_read.Lts as lts
-use Rattle.device.proofs.answer.Refusal.number.Reads as number-reads
+use Rattle.answer.proofs.Refusal.number.Reads as number-reads
 use Rattle.record.proofs.store.Reads as store-reads
 
 enum-known-g : tie.Need-enum-known-g

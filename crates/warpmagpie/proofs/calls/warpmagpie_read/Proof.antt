@@ -4,7 +4,7 @@ use Rattle.warpmagpie.proofs.calls.warpmagpie_read.Statement.{statement
 use Rattle.warpmagpie.proofs.calls.warpmagpie_read.Tie as tie
 use Rattle.warpmagpie.proofs.calls.warpmagpie_read.Reads as reads
 use Rattle.warpmagpie.proofs.calls.warpmagpie_read.Lts as lts
-use Rattle.device.proofs.answer.Refusal.number.Reads as number-reads
+use Rattle.answer.proofs.Refusal.number.Reads as number-reads
 use Rattle.device.proofs.unit.Device.read.Reads as read-reads
 use Rattle.record.proofs.decode.Reads as decode-reads
 use Rattle.warpmagpie.proofs.calls.settle_read.Reads as settle-read-reads

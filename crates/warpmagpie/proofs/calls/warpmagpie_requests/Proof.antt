@@ -4,7 +4,7 @@ use Rattle.warpmagpie.proofs.calls.warpmagpie_requests.Statement.{state
 use Rattle.warpmagpie.proofs.calls.warpmagpie_requests.Tie as tie
 use Rattle.warpmagpie.proofs.calls.warpmagpie_requests.Reads as reads
 use Rattle.warpmagpie.proofs.calls.warpmagpie_requests.Lts as lts
-use Rattle.device.proofs.answer.Refusal.number.Reads as number-reads
+use Rattle.answer.proofs.Refusal.number.Reads as number-reads
 use Rattle.device.proofs.unit.Device.requests.Reads as requests-reads
 use Rattle.record.proofs.decode.Reads as decode-reads
 

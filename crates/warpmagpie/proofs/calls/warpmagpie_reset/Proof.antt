@@ -5,7 +5,7 @@ use Rattle.warpmagpie.proofs.calls.warpmagpie_reset.Statement.{statemen
 use Rattle.warpmagpie.proofs.calls.warpmagpie_reset.Tie as tie
 use Rattle.warpmagpie.proofs.calls.warpmagpie_reset.Reads as reads
 use Rattle.warpmagpie.proofs.calls.warpmagpie_reset.Lts as lts
-use Rattle.device.proofs.answer.Refusal.number.Reads as number-reads
+use Rattle.answer.proofs.Refusal.number.Reads as number-reads
 use Rattle.device.proofs.unit.Device.reset.Reads as reset-reads
 use Rattle.record.proofs.store.Reads as store-reads
 

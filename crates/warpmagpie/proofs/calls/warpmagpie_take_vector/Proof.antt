@@ -4,7 +4,7 @@ use Rattle.warpmagpie.proofs.calls.warpmagpie_take_vector.Statement.{st
 use Rattle.warpmagpie.proofs.calls.warpmagpie_take_vector.Tie as tie
 use Rattle.warpmagpie.proofs.calls.warpmagpie_take_vector.Reads as reads
 use Rattle.warpmagpie.proofs.calls.warpmagpie_take_vector.Lts as lts
-use Rattle.device.proofs.answer.Refusal.number.Reads as number-reads
+use Rattle.answer.proofs.Refusal.number.Reads as number-reads
 use Rattle.device.proofs.unit.Device.take_vector.Reads as take-vector-reads
 use Rattle.record.proofs.decode.Reads as decode-reads
 use Rattle.warpmagpie.proofs.calls.settle.Reads as settle-reads

@@ -4,7 +4,7 @@ use Rattle.warpmagpie.proofs.calls.warpmagpie_write.Statement.{statemen
 use Rattle.warpmagpie.proofs.calls.warpmagpie_write.Tie as tie
 use Rattle.warpmagpie.proofs.calls.warpmagpie_write.Reads as reads
 use Rattle.warpmagpie.proofs.calls.warpmagpie_write.Lts as lts
-use Rattle.device.proofs.answer.Refusal.number.Reads as number-reads
+use Rattle.answer.proofs.Refusal.number.Reads as number-reads
 use Rattle.device.proofs.unit.Device.write.Reads as write-reads
 use Rattle.record.proofs.decode.Reads as decode-reads
 use Rattle.warpmagpie.proofs.calls.settle.Reads as settle-reads

@@ -6,7 +6,7 @@ use Rattle.warpmagpie.proofs.run.warpmagpie_run.Statement.{statement}
 use Rattle.warpmagpie.proofs.run.warpmagpie_run.Tie as tie
 use Rattle.warpmagpie.proofs.run.warpmagpie_run.Reads as reads
 use Rattle.warpmagpie.proofs.run.warpmagpie_run.Lts as lts
-use Rattle.device.proofs.answer.Refusal.number.Reads as number-reads
+use Rattle.answer.proofs.Refusal.number.Reads as number-reads
 use Rattle.record.proofs.decode.Reads as decode-reads
 use Rattle.record.proofs.store.Reads as store-reads
 use Rattle.warpmagpie.proofs.run.are_levels.Reads as are-levels-reads
