@@ -4,3 +4,4 @@ pub mod OutputLaws
 pub mod SerialLaws
 pub mod ValidLaws
 pub mod RunLaws
+pub mod LoopLaws

@@ -12,15 +12,17 @@ use Rattle.usart.specs.declared.unit.Usart.{Usart}
 use Rattle.usart.proofs.CountingLaws.{quiet-clock, quiet-after, counted-none, counted-more, output-counted}
 use Rattle.spi.specs.Control.{isEnabled}
 use Rattle.spi.specs.Unit.{outputOf as spiOutput}
-use Rattle.spi.specs.Clock.{withSck}
+use Rattle.spi.specs.Clock.{withSck, clockOf as spiClock}
+use Rattle.spi.specs.declared.clock.Levels.{Levels}
 use Rattle.spi.specs.declared.unit.Spi.{Spi}
 use Rattle.spi.proofs.CommandLaws.{off-clock, off-output}
-use Rattle.device.specs.Unit.{rxdIn, levelsIn, clockOf}
-use Rattle.device.specs.Run.{ranOf, outputsOf, serialRan, serialOutputs, spiRan, spiOutputs, sumsOf}
+use Rattle.device.specs.Unit.{rxdIn, levelsIn, afterOf, clockOf}
+use Rattle.device.specs.ByUnit.{serialRan, serialOutputs, spiRan, spiOutputs, sumsOf}
+use Rattle.device.specs.Run.{ranOf, outputsOf}
 use Rattle.device.specs.declared.unit.Device.{Device}
 use Rattle.device.proofs.OutputLaws.{output-fits}
 
-pub ran-units : (d : Device) (ls : List ℕ) → ranOf d ls ≡ record { usart = serialRan (d .usart) ls; spi = spiRan (d .spi) ls }
+pub ran-units : (d : Device) (ls : List ℕ) → ranOf d ls ≡ afterOf d (serialRan (d .usart) ls) (spiRan (d .spi) ls)
 unfolding ranOf serialRan spiRan
 ran-units d [] = refl
 ran-units d (l ∷ ls) = ran-units (clockOf d l) ls
@@ -43,16 +45,20 @@ outputs-off d (l ∷ ls) off =
     let z : spiOutput (c .spi) (levelsIn l .ss) ≡ 0 = off-output (c .spi) (levelsIn l .ss) o in
     ap₂ (_∷_) (omega (arith, z)) (outputs-off c ls o)
 
-pub off-ran : (s : Spi) (ls : List ℕ) (n : ℕ) → length ls ≡ suc n → isEnabled (s .control) ≡ false
-    → spiRan s ls ≡ withSck s (levelsIn (getD ls n 0) .sck)
+-- so its last clock says all
+pub off-ran : (s : Spi) (ls : List ℕ) (n : ℕ) → length ls ≡ suc n → isEnabled (s .control) ≡ false → spiRan s ls ≡ spiClock s (levelsIn (getD ls n 0))
 unfolding spiRan
 off-ran s [] n e off = absurd (omega (arith, e))
-off-ran s (l ∷ []) zero e off = off-clock s (levelsIn l) off
+off-ran s (l ∷ []) zero e off = refl
 off-ran s (l ∷ []) (suc n) e off = absurd (omega (arith, e))
 off-ran s (l ∷ m ∷ ms) zero e off = absurd (omega (arith, e))
 off-ran s (l ∷ m ∷ ms) (suc n) e off =
     let c : Spi = withSck s (levelsIn l .sck) in
-    ap (λ (x : Spi). spiRan x (m ∷ ms)) (off-clock s (levelsIn l) off) ∙ off-ran c (m ∷ ms) n (omega (arith, e)) off
+    let last : Levels = levelsIn (getD (m ∷ ms) n 0) in
+    ap (λ (x : Spi). spiRan x (m ∷ ms)) (off-clock s (levelsIn l) off)
+    ∙ off-ran c (m ∷ ms) n (omega (arith, e)) off
+    ∙ off-clock c last off
+    ∙ sym (off-clock s last off)
 
 -- clocks in a row
 pub serial-append : (u : Usart) (xs ys : List ℕ) → serialRan u (xs ++ ys) ≡ serialRan (serialRan u xs) ys

@@ -5,5 +5,6 @@ pub mod Output
 pub mod Bytes
 pub mod Register
 pub mod Run
+pub mod ByUnit
 pub mod Serial
 pub mod Valid

@@ -14,11 +14,15 @@ use Rattle.device.specs.declared.unit.Clocked.{Clocked}
 abbrev pub resetDevice : Device
 resetDevice = record { usart = resetUsart; spi = resetSpi }
 
+-- the device d after an operation, by its units
+abbrev pub afterOf : Device → Usart → Spi → Device
+afterOf d u s = record { usart = u; spi = s }
+
 abbrev pub withUsart : Device → Usart → Device
-withUsart d u = record { usart = u; spi = d .spi }
+withUsart d u = afterOf d u (d .spi)
 
 abbrev pub withSpi : Device → Spi → Device
-withSpi d s = record { usart = d .usart; spi = s }
+withSpi d s = afterOf d (d .usart) s
 
 -- level byte: RxD, MISO, MOSI, SCK, SS in bits 0 to 4
 abbrev pub rxdIn : ℕ → Bool
@@ -29,7 +33,7 @@ levelsIn level =
     record { miso = eqb (level / 2 % 2) 1; mosi = eqb (level / 4 % 2) 1; sck = eqb (level / 8 % 2) 1; ss = eqb (level / 16 % 2) 1 }
 
 abbrev pub clockOf : Device → ℕ → Device
-clockOf d level = record { usart = serialClock (d .usart) (rxdIn level); spi = spiClock (d .spi) (levelsIn level) }
+clockOf d level = afterOf d (serialClock (d .usart) (rxdIn level)) (spiClock (d .spi) (levelsIn level))
 
 -- output byte: TxD, MOSI, MISO, SCK in bits 0 to 3, driven marks in 4 to 7; SS at this clock is looked at for MISO
 abbrev pub outputOf : Device → ℕ → ℕ

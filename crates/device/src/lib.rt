@@ -2,6 +2,9 @@
 // knows nothing of the record's bytes.
 mod address;
 mod outcome;
+mod run;
+mod serial_run;
+mod spi_run;
 mod unit;
 
 pub use address::Place;
@@ -9,4 +12,3 @@ pub use outcome::Reading;
 pub use outcome::Written;
 pub use unit::Clocked;
 pub use unit::Device;
-pub use unit::levels;

@@ -1,5 +1,5 @@
-use answer::Refusal;
 use crate::unit::Device;
+use answer::Refusal;
 
 pub enum Written {
     Done(Device),

@@ -1,12 +1,12 @@
-use answer::Refusal;
 use crate::address::Place;
 use crate::outcome::Reading;
 use crate::outcome::Written;
+use answer::Refusal;
 use spi::Levels;
 use spi::Spi;
 use usart::Usart;
 ghost use mathlib.Core.Path.{_≡_};
-ghost use Rattle.device.specs.Unit.{resetDevice, withUsart, withSpi, levelsIn, clockOf, outputOf, clockedOf, requestsOf};
+ghost use Rattle.device.specs.Unit.{resetDevice, afterOf, withUsart, withSpi, levelsIn, clockOf, outputOf, clockedOf, requestsOf};
 ghost use Rattle.device.specs.Register.{resetAt, serialWritten, spiWritten, writeOf, serialRead, spiRead, readOf, vectorOf};
 
 pub struct Device {
@@ -21,7 +21,7 @@ pub struct Clocked {
 }
 
 // MISO, MOSI, SCK and SS in bits 1 to 4 of a level byte.
-pub fn levels(level: u8) -> Levels
+pub(crate) fn pin_levels(level: u8) -> Levels
     ensures { λ r. ⌜ r ≡ levelsIn level ⌝ }
 {
     Levels {
@@ -54,27 +54,33 @@ impl Device {
         }
     }
 
+    // The device after an operation, by its units: every operation makes its device here.
+    pub(crate) fn after(self, u: Usart, s: Spi) -> Device
+        ensures { λ r. ⌜ r ≡ afterOf self u s ⌝ }
+    {
+        Device { usart: u, spi: s }
+    }
+
     fn with_usart(self, u: Usart) -> Device
         ensures { λ r. ⌜ r ≡ withUsart self u ⌝ }
     {
         let s = self.spi;
-        Device { usart: u, spi: s }
+        self.after(u, s)
     }
 
     fn with_spi(self, s: Spi) -> Device
         ensures { λ r. ⌜ r ≡ withSpi self s ⌝ }
     {
         let u = self.usart;
-        Device { usart: u, spi: s }
+        self.after(u, s)
     }
 
     fn next(self, level: u8) -> Device
         ensures { λ r. ⌜ r ≡ clockOf self level ⌝ }
     {
-        Device {
-            usart: self.usart.clock(level % 2 == 1),
-            spi: self.spi.clock(levels(level)),
-        }
+        let u = self.usart.clock(level % 2 == 1);
+        let s = self.spi.clock(pin_levels(level));
+        self.after(u, s)
     }
 
     // The output byte, with the level byte of this clock: only SS is looked at.

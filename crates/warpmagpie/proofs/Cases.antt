@@ -10,9 +10,9 @@ use Rattle.choice.specs.Pick.{pick}
 use Rattle.answer.specs.Number.{numberOf}
 use Rattle.device.specs.Outcome.{answerOf, readAnswerOf, valueOf}
 use Rattle.device.specs.Register.{writeOf, readOf, vectorOf}
-use Rattle.device.specs.Run.{ranOf, outputsOf, areLevels}
+use Rattle.device.specs.Run.{outputsOf, areLevels, runOf, shown}
 use Rattle.device.specs.Unit.{resetDevice, requestsOf}
-use Rattle.answer.specs.declared.Refusal.the-variants.{Record, Length, Level}
+use Rattle.answer.specs.declared.Refusal.the-variants.{Record}
 use Rattle.device.specs.declared.outcome.Written.{Written}
 use Rattle.device.specs.declared.outcome.Written.the-variants.{Done, Refused}
 use Rattle.device.specs.declared.outcome.Reading.{Reading}
@@ -22,13 +22,8 @@ use Rattle.record.specs.Codec.{decodeOf, recordOf, storedOf}
 use Rattle.record.specs.declared.codec.Decoded.{Decoded}
 use Rattle.record.specs.declared.codec.Decoded.the-variants.{Accepted, Refused as NoDevice}
 use Rattle.record.proofs.Round.{decode-length, stored}
-use Rattle.warpmagpie.specs.Calls.{kept, shown, resetOn, resetAnswer, recordAfterReset, writeOn, writeAnswer, recordAfterWrite, readOn, keptByRead, readAnswer, readValue, recordAfterRead, vectorOn, vectorAnswer, recordAfterVector, runOn, outputsOn, runAnswer, recordAfterRun, outputsAfterRun, requestsAnswerOn, requestsValueOn, requestsAnswer, requestsValue}
+use Rattle.warpmagpie.specs.Calls.{kept, resetOn, resetAnswer, recordAfterReset, writeOn, writeAnswer, recordAfterWrite, readOn, keptByRead, readAnswer, readValue, recordAfterRead, vectorOn, vectorAnswer, recordAfterVector, runOn, outputsOn, runAnswer, recordAfterRun, outputsAfterRun, requestsAnswerOn, requestsValueOn, requestsAnswer, requestsValue}
 use Rattle.warpmagpie.specs.PutBack.{putBack, putBackRead}
-
--- an output slice that is too short and a level byte with bit 5 set: of 6 and 7, 6 is answered
-pub six-before-seven : (d : Device) → answerOf (runOn (Accepted d) (32 ∷ []) []) ≡ 6
-unfolding runOn areLevels
-six-before-seven d = refl
 
 -- on 64 bytes, what is put back is what is kept
 pub put-back : (s : List ℕ) (w : Written) → length s ≡ 64 → putBack w s ≡ kept s w
@@ -43,14 +38,6 @@ put-back-read s (NoValue r) h = refl
 abbrev pub RunIs : List ℕ → List ℕ → List ℕ → ℕ → List ℕ → List ℕ → Type 0
 RunIs s ls os n s' os' = (n ≡ runAnswer s ls os) × ((s' ≡ recordAfterRun s ls os) × (os' ≡ outputsAfterRun s ls os))
 
--- a run that comes to w, with the outputs new
-run-is : (s ls os : List ℕ) (w : Written) (new : List ℕ) {n : ℕ} {s' os' : List ℕ} → w ≡ runOn (decodeOf s) ls os → outputsOn (decodeOf s) ls ≡ new
-    → n ≡ answerOf w → s' ≡ kept s w → os' ≡ shown os new w → RunIs s ls os n s' os'
-run-is s ls os w new e o hn hs ho = (
-  hn ∙ ap answerOf e,
-  (hs ∙ ap (kept s) e, ho ∙ ap₂ (shown os) (sym o) e),
-)
-
 -- the record that a call took is that of d
 module _ (s : List ℕ) {t : Decoded} {d : Device} (p : t ≡ decodeOf s) (q : t ≡ Accepted d) where
   abbrev accepted : decodeOf s ≡ Accepted d
@@ -59,23 +46,27 @@ module _ (s : List ℕ) {t : Decoded} {d : Device} (p : t ≡ decodeOf s) (q : t
   pub length-64 : length s ≡ 64
   length-64 = decode-length s d accepted
 
-  write-on : (a v : ℕ) → writeOf d a v ≡ writeOn (decodeOf s) a v
-  unfolding writeOn
-  write-on a v = sym (ap (λ (x : Decoded). writeOn x a v) accepted)
+  -- a call that came to w, which was put back
+  settle-is : {w x : Written} {n : ℕ} {s' : List ℕ} → w ≡ x → n ≡ answerOf w → s' ≡ putBack w s → (n ≡ answerOf x) × (s' ≡ kept s x)
+  settle-is {w} e hn hs = (hn ∙ ap answerOf e, hs ∙ put-back s w length-64 ∙ ap (kept s) e)
 
   pub write-done : (a v : ℕ) {n : ℕ} {s' : List ℕ} {w : Written} → w ≡ writeOf d a v → n ≡ answerOf w → s' ≡ putBack w s
       → (n ≡ writeAnswer s a v) × (s' ≡ recordAfterWrite s a v)
-  write-done a v {n} {s'} {w} hw hn hs =
-      let e : w ≡ writeOn (decodeOf s) a v = hw ∙ write-on a v in (hn ∙ ap answerOf e, hs ∙ put-back s w length-64 ∙ ap (kept s) e)
-
-  vector-on : (i : ℕ) → vectorOf d i ≡ vectorOn (decodeOf s) i
-  unfolding vectorOn
-  vector-on i = sym (ap (λ (x : Decoded). vectorOn x i) accepted)
+  unfolding writeOn
+  write-done a v hw = settle-is (hw ∙ sym (ap (λ (x : Decoded). writeOn x a v) accepted))
 
   pub vector-done : (i : ℕ) {n : ℕ} {s' : List ℕ} {w : Written} → w ≡ vectorOf d i → n ≡ answerOf w → s' ≡ putBack w s
       → (n ≡ vectorAnswer s i) × (s' ≡ recordAfterVector s i)
-  vector-done i {n} {s'} {w} hw hn hs =
-      let e : w ≡ vectorOn (decodeOf s) i = hw ∙ vector-on i in (hn ∙ ap answerOf e, hs ∙ put-back s w length-64 ∙ ap (kept s) e)
+  unfolding vectorOn
+  vector-done i hw = settle-is (hw ∙ sym (ap (λ (x : Decoded). vectorOn x i) accepted))
+
+  pub run-done : (ls os : List ℕ) {n : ℕ} {s' os' : List ℕ} {w : Written} → w ≡ runOf d ls os → n ≡ answerOf w → s' ≡ putBack w s
+      → os' ≡ shown os (outputsOf d ls) (runOf d ls os) → RunIs s ls os n s' os'
+  unfolding runOn outputsOn
+  run-done ls os hw hn hs ho =
+      let on = sym (ap (λ (x : Decoded). runOn x ls os) accepted) in
+      let done = settle-is (hw ∙ on) hn hs in
+      (done .0, (done .1, ho ∙ ap₂ (shown os) (sym (ap (λ (x : Decoded). outputsOn x ls) accepted)) on))
 
   read-on : (a : ℕ) → readOf d a ≡ readOn (decodeOf s) a
   unfolding readOn
@@ -90,32 +81,6 @@ module _ (s : List ℕ) {t : Decoded} {d : Device} (p : t ≡ decodeOf s) (q : t
   pub requests-done : {v : ℕ} → v ≡ requestsOf d → (0 ≡ requestsAnswer s) × (v ≡ requestsValue s)
   unfolding requestsAnswerOn requestsValueOn
   requests-done h = (sym (ap requestsAnswerOn accepted), h ∙ sym (ap requestsValueOn accepted))
-
-  module _ (ls os : List ℕ) where
-    abbrev tested : Bool → Bool → Written
-    tested a b = pick a (pick b (Done (ranOf d ls)) (Refused Level)) (Refused Length)
-
-    run-on : (a b : Bool) → eqb (length os) (length ls) ≡ a → areLevels ls ≡ b → tested a b ≡ runOn (decodeOf s) ls os
-    unfolding runOn
-    run-on a b ha hb = ap₂ tested (sym ha) (sym hb) ∙ sym (ap (λ (x : Decoded). runOn x ls os) accepted)
-
-    outputs-on : outputsOn (decodeOf s) ls ≡ outputsOf d ls
-    unfolding outputsOn
-    outputs-on = ap (λ (x : Decoded). outputsOn x ls) accepted
-
-    pub run-length : {n : ℕ} → (length os ≡ length ls → ⊥) → n ≡ numberOf Length → RunIs s ls os n s os
-    run-length h hn =
-        run-is s ls os (Refused Length) (outputsOf d ls) (run-on false (areLevels ls) (ne-eqb (length os) (length ls) h) refl) outputs-on hn refl refl
-
-    pub run-level : {n : ℕ} → length os ≡ length ls → areLevels ls ≡ false → n ≡ numberOf Level → RunIs s ls os n s os
-    run-level h k hn = run-is s ls os (Refused Level) (outputsOf d ls) (run-on true false (eq-eqb (length os) (length ls) h) k) outputs-on hn refl refl
-
-    pub run-done : {e : Device} {s' os' : List ℕ} → length os ≡ length ls → areLevels ls ≡ true → e ≡ ranOf d ls → s' ≡ storedOf e s → os' ≡ outputsOf d ls
-        → RunIs s ls os 0 s' os'
-    run-done {e} h k he hs ho =
-        run-is s ls os (Done (ranOf d ls)) (outputsOf d ls) (run-on true true (eq-eqb (length os) (length ls) h) k) outputs-on refl
-        (hs ∙ stored e s length-64 ∙ ap recordOf he)
-        ho
 
 -- the record that a call took is refused
 module _ (s : List ℕ) {t : Decoded} (p : t ≡ decodeOf s) (q : t ≡ NoDevice) {n : ℕ} (r : n ≡ numberOf Record) where

@@ -8,8 +8,8 @@ use Rattle.answer.specs.Number.{numberOf}
 use Rattle.device.specs.Outcome.{answerOf, readAnswerOf, valueOf}
 use Rattle.device.specs.Unit.{resetDevice, requestsOf}
 use Rattle.device.specs.Register.{writeOf, readOf, vectorOf}
-use Rattle.device.specs.Run.{ranOf, outputsOf, areLevels}
-use Rattle.answer.specs.declared.Refusal.the-variants.{Record, Length, Level}
+use Rattle.device.specs.Run.{outputsOf, runOf, shown}
+use Rattle.answer.specs.declared.Refusal.the-variants.{Record}
 use Rattle.device.specs.declared.outcome.Written.{Written}
 use Rattle.device.specs.declared.outcome.Written.the-variants.{Done, Refused}
 use Rattle.device.specs.declared.outcome.Reading.{Reading}
@@ -22,11 +22,6 @@ use Rattle.record.specs.declared.codec.Decoded.the-variants.{Accepted, Refused 
 abbrev pub kept : List ℕ → Written → List ℕ
 kept s (Done d) = recordOf d
 kept s (Refused r) = s
-
--- .. and the output slice
-abbrev pub shown : List ℕ → List ℕ → Written → List ℕ
-shown os new (Done d) = new
-shown os new (Refused r) = os
 
 -- reset ignores the old bytes and refuses only a wrong length
 unfoldable pub resetOn : List ℕ → Written
@@ -80,7 +75,7 @@ recordAfterVector s n = kept s (vectorOn (decodeOf s) n)
 
 -- a run of clocks: 5, then 6 for the lengths, then 7 for the levels
 unfoldable pub runOn : Decoded → List ℕ → List ℕ → Written
-runOn (Accepted d) ls os = pick (eqb (length os) (length ls)) (pick (areLevels ls) (Done (ranOf d ls)) (Refused Level)) (Refused Length)
+runOn (Accepted d) ls os = runOf d ls os
 runOn NoDevice ls os = Refused Record
 
 unfoldable pub outputsOn : Decoded → List ℕ → List ℕ

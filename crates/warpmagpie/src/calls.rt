@@ -1,11 +1,11 @@
+use answer::Refusal;
 use device::Device;
 use device::Reading;
-use answer::Refusal;
 use device::Written;
 use record::Decoded;
 ghost use mathlib.Core.Path.{_≡_};
 ghost use Rattle.device.specs.Outcome.{answerOf, readAnswerOf, valueOf};
-ghost use Rattle.warpmagpie.specs.Calls.{resetAnswer, recordAfterReset, writeAnswer, recordAfterWrite, readAnswer, readValue, recordAfterRead, vectorAnswer, recordAfterVector, requestsAnswer, requestsValue};
+ghost use Rattle.warpmagpie.specs.Calls.{resetAnswer, recordAfterReset, writeAnswer, recordAfterWrite, readAnswer, readValue, recordAfterRead, vectorAnswer, recordAfterVector, runAnswer, recordAfterRun, outputsAfterRun, requestsAnswer, requestsValue};
 ghost use Rattle.warpmagpie.specs.PutBack.{putBack, putBackRead};
 
 // Puts back what a write or a vector came to; a refusal leaves the record as it is.
@@ -95,6 +95,22 @@ pub extern "C" fn warpmagpie_take_vector(image: &mut [u8], vector: u8) -> u8
     let got = record::decode(image);
     match got {
         Decoded::Accepted(d) => settle(d.take_vector(vector), image),
+        Decoded::Refused => {
+            let r = Refusal::Record;
+            r.number()
+        }
+    }
+}
+
+#[no_mangle]
+pub extern "C" fn warpmagpie_run(image: &mut [u8], levels: &[u8], outputs: &mut [u8]) -> u8
+    ensures { λ r. ⌜ r ≡ runAnswer (now (image .entry)) (now (levels .entry)) (now (outputs .entry)) ⌝ }
+    ensures { λ _. ⌜ now (image .exit) ≡ recordAfterRun (now (image .entry)) (now (levels .entry)) (now (outputs .entry)) ⌝ }
+    ensures { λ _. ⌜ now (outputs .exit) ≡ outputsAfterRun (now (image .entry)) (now (levels .entry)) (now (outputs .entry)) ⌝ }
+{
+    let got = record::decode(image);
+    match got {
+        Decoded::Accepted(d) => settle(d.run(levels, outputs), image),
         Decoded::Refused => {
             let r = Refusal::Record;
             r.number()

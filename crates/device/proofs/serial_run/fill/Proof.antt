@@ -3,11 +3,11 @@ use mathlib.Core.List.{_++_}
 use Prim.Native.Nat.{ℕ, _-_, _<_, _≤_}
 use native.Mathlib.Omega.{arith}
 use lib.ListN.{length, take, replicate, length-set}
-use Rattle.warpmagpie.proofs.Runs.{fill-none, fill-on}
-use Rattle.warpmagpie.proofs.clocks.fill.Statement.{statement}
-use Rattle.warpmagpie.proofs.clocks.fill.Tie as tie
-use Rattle.warpmagpie.proofs.clocks.fill.Reads as reads
-use Rattle.warpmagpie.proofs.clocks.fill.Lts as lts
+use Rattle.device.proofs.LoopLaws.{fill-none, fill-on}
+use Rattle.device.proofs.serial_run.fill.Statement.{statement}
+use Rattle.device.proofs.serial_run.fill.Tie as tie
+use Rattle.device.proofs.serial_run.fill.Reads as reads
+use Rattle.device.proofs.serial_run.fill.Lts as lts
 
 abbrev Inv-loop : tie.InvT-loop
 Inv-loop outputs₀ «from» to output i₀ outputs i =

@@ -5,17 +5,17 @@ use native.Mathlib.Omega.{arith}
 use lib.ListN.{length, take, drop, replicate, length-set}
 use Rattle.usart.specs.Unit.{outputOf}
 use Rattle.usart.specs.declared.unit.Usart.{Usart}
-use Rattle.device.specs.Run.{serialRan, serialOutputs}
-use Rattle.warpmagpie.proofs.Runs.{serial-on, serial-outputs-on, serial-skip, serial-outputs-skip, skipped-few, skipped-unit}
+use Rattle.device.specs.ByUnit.{serialRan, serialOutputs}
+use Rattle.device.proofs.LoopLaws.{serial-on, serial-outputs-on, serial-skip, serial-outputs-skip, skipped-few, skipped-unit}
 use borrow.Author.Needs.{needs}
-use Rattle.warpmagpie.proofs.clocks.pass.Statement.{statement}
-use Rattle.warpmagpie.proofs.clocks.pass.Tie as tie
-use Rattle.warpmagpie.proofs.clocks.pass.Reads as reads
-use Rattle.warpmagpie.proofs.clocks.pass.Lts as lts
+use Rattle.device.proofs.serial_run.pass.Statement.{statement}
+use Rattle.device.proofs.serial_run.pass.Tie as tie
+use Rattle.device.proofs.serial_run.pass.Reads as reads
+use Rattle.device.proofs.serial_run.pass.Lts as lts
 use Rattle.usart.proofs.unit.Usart.clock.Reads as clock-reads
 use Rattle.usart.proofs.unit.Usart.output.Reads as output-reads
 use Rattle.usart.proofs.unit.Usart.skip.Reads as skip-reads
-use Rattle.warpmagpie.proofs.clocks.fill.Reads as fill-reads
+use Rattle.device.proofs.serial_run.fill.Reads as fill-reads
 
 sub-skip : tie.Need-sub-skip
 sub-skip c = search needs

@@ -6,12 +6,12 @@ use native.Mathlib.Omega.{arith}
 use lib.ListN.{length, drop}
 use Rattle.choice.specs.Pick.{pick}
 use Rattle.choice.proofs.Picks.{pick-self}
 use Rattle.device.specs.Run.{areLevels}
-use Rattle.warpmagpie.proofs.Runs.{same-limit, level-on, none-left}
-use Rattle.warpmagpie.proofs.run.are_levels.Statement.{statement}
-use Rattle.warpmagpie.proofs.run.are_levels.Tie as tie
-use Rattle.warpmagpie.proofs.run.are_levels.Reads as reads
-use Rattle.warpmagpie.proofs.run.are_levels.Lts as lts
+use Rattle.device.proofs.LoopLaws.{same-limit, level-on, none-left}
+use Rattle.device.proofs.run.are_levels.Statement.{statement}
+use Rattle.device.proofs.run.are_levels.Tie as tie
+use Rattle.device.proofs.run.are_levels.Reads as reads
+use Rattle.device.proofs.run.are_levels.Lts as lts
 
 abbrev Inv-loop : tie.InvT-loop
 Inv-loop levels low₀ i₀ low i = (i ≤ length levels) × (pick low (areLevels (drop i levels)) false ≡ areLevels levels)

@@ -3,13 +3,13 @@ use mathlib.Core.List.{List, _++_}
 use Prim.Native.Nat.{ℕ, _-_, _≤_}
 use native.Mathlib.Omega.{arith}
 use lib.ListN.{length, take, drop}
-use Rattle.device.specs.Run.{serialRan, serialOutputs}
-use Rattle.warpmagpie.proofs.Runs.{none-left, all-taken}
-use Rattle.warpmagpie.proofs.clocks.serial_clocks.Statement.{statement}
-use Rattle.warpmagpie.proofs.clocks.serial_clocks.Tie as tie
-use Rattle.warpmagpie.proofs.clocks.serial_clocks.Reads as reads
-use Rattle.warpmagpie.proofs.clocks.serial_clocks.Lts as lts
-use Rattle.warpmagpie.proofs.clocks.pass.Reads as pass-reads
+use Rattle.device.specs.ByUnit.{serialRan, serialOutputs}
+use Rattle.device.proofs.LoopLaws.{none-left, all-taken}
+use Rattle.device.proofs.serial_run.serial_clocks.Statement.{statement}
+use Rattle.device.proofs.serial_run.serial_clocks.Tie as tie
+use Rattle.device.proofs.serial_run.serial_clocks.Reads as reads
+use Rattle.device.proofs.serial_run.serial_clocks.Lts as lts
+use Rattle.device.proofs.serial_run.pass.Reads as pass-reads
 
 abbrev Inv-loop : tie.InvT-loop
 Inv-loop levels outputs₀ state₀ i₀ outputs state i =

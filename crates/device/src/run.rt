@@ -1,0 +1,73 @@
+// A run of clocks. The two units never look at each other, so a run goes through the level bytes once for each: the state of one unit is
+// small enough to stay in the processor's registers.
+use crate::outcome::Written;
+use crate::serial_run::serial_clocks;
+use crate::spi_run::master_clocks;
+use crate::spi_run::off_clocks;
+use crate::spi_run::spi_clocks;
+use crate::unit::Device;
+use answer::Refusal;
+ghost use mathlib.Core.Path.{_≡_};
+ghost use lib.ListN.{length};
+ghost use Rattle.device.specs.Run.{ranOf, outputsOf, areLevels, runOf, shown};
+
+// Whether no level byte has bit 5, 6 or 7 set. All are looked at, also after one that has: without a way out of the loop the compiler tests
+// many at a time.
+fn are_levels(levels: &[u8]) -> bool
+    ensures { λ r. ⌜ r ≡ areLevels (now (levels .entry)) ⌝ }
+{
+    let mut low = true;
+    let mut i = 0;
+    while i < levels.len() {
+        low = low & (levels[i] < 32);
+        i += 1;
+    }
+    low
+}
+
+impl Device {
+    // Each unit by itself.
+    fn by_unit(self, levels: &[u8], outputs: &mut [u8]) -> Device
+        requires { ⌜ length (now outputs) ≡ length (now levels) ⌝ }
+        ensures { λ r. ⌜ r ≡ ranOf self (now (levels .entry)) ⌝ }
+        ensures { λ _. ⌜ now (outputs .exit) ≡ outputsOf self (now (levels .entry)) ⌝ }
+    {
+        let s = self.spi;
+        let u = serial_clocks(self.usart, levels, outputs);
+        if s.control.commands() {
+            return self.after(u, master_clocks(s, levels, outputs));
+        }
+        if s.control.enabled() {
+            return self.after(u, spi_clocks(s, levels, outputs));
+        }
+        self.after(u, off_clocks(s, levels))
+    }
+
+    // One clock for each level byte, with an output byte for each.
+    fn clocks(self, levels: &[u8], outputs: &mut [u8]) -> Device
+        requires { ⌜ length (now outputs) ≡ length (now levels) ⌝ }
+        ensures { λ r. ⌜ r ≡ ranOf self (now (levels .entry)) ⌝ }
+        ensures { λ _. ⌜ now (outputs .exit) ≡ outputsOf self (now (levels .entry)) ⌝ }
+    {
+        if levels.len() == 1 {
+            let c = self.clock(levels[0]);
+            outputs[0] = c.output;
+            return c.device;
+        }
+        self.by_unit(levels, outputs)
+    }
+
+    // The lengths are looked at first, and all level bytes before any clock passes.
+    pub fn run(self, levels: &[u8], outputs: &mut [u8]) -> Written
+        ensures { λ r. ⌜ r ≡ runOf self (now (levels .entry)) (now (outputs .entry)) ⌝ }
+        ensures { λ _. ⌜ now (outputs .exit) ≡ shown (now (outputs .entry)) (outputsOf self (now (levels .entry))) (runOf self (now (levels .entry)) (now (outputs .entry))) ⌝ }
+    {
+        if outputs.len() != levels.len() {
+            return Written::Refused(Refusal::Length);
+        }
+        if are_levels(levels) {
+            return Written::Done(self.clocks(levels, outputs));
+        }
+        Written::Refused(Refusal::Level)
+    }
+}
