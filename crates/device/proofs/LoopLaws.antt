@@ -27,7 +27,6 @@ use Rattle.device.specs.Run.{ranOf, outputsOf, areLevels, runOf, shown}
 use Rattle.device.specs.Unit.{rxdIn, levelsIn, afterOf, clockedOf}
 use Rattle.device.specs.declared.outcome.Written.{Written}
 use Rattle.device.specs.declared.outcome.Written.the-variants.{Done, Refused}
-use Rattle.device.specs.declared.unit.Clocked.{Clocked}
 use Rattle.device.specs.declared.unit.Device.{Device}
 use Rattle.device.proofs.RunLaws.{ran-units, outputs-units, outputs-off, serial-append, serial-outputs-append, counted-ran, counted-outputs}
 
@@ -147,20 +146,17 @@ spi-done {ls} {os₀} {os} {s₀} {s} {i} p h =
     let end′ : i ≡ length os = omega (arith, end, p .long) in
     (sym (ap (spiRan s) (none-left ls i end)) ∙ p .ran, sym (all-taken os i end′) ∙ sym (ap₂ (λ (xs ys : List ℕ). take i os ++ sumsOf xs (spiOutputs s ys)) (none-left os i end′) (none-left ls i end)) ∙ p .outputs)
 
--- no clocks, and one
+-- no clocks
 pub no-clocks : (s : Spi) (ls : List ℕ) → length ls ≡ 0 → s ≡ spiRan s ls
 unfolding spiRan
 no-clocks s [] e = refl
 no-clocks s (l ∷ ls) e = absurd (omega (arith, e))
 
-pub one-clock : (d : Device) (ls os : List ℕ) {c : Clocked} → length ls ≡ 1 → length os ≡ length ls → c ≡ clockedOf d (getD ls 0 0)
-    → (c .device ≡ ranOf d ls) × (set os 0 (c .output) ≡ outputsOf d ls)
+-- a run of one
+pub one-clock : (d : Device) (l : ℕ) {e : Device} {os : List ℕ} → e ≡ ranOf d (l ∷ []) → os ≡ outputsOf d (l ∷ [])
+    → record { device = e; output = getD os 0 0 } ≡ clockedOf d l
 unfolding ranOf outputsOf
-one-clock d (l ∷ []) (o ∷ []) e f h = rw h (refl, refl)
-one-clock d [] os e f h = absurd (omega (arith, e))
-one-clock d (l ∷ m ∷ ls) os e f h = absurd (omega (arith, e))
-one-clock d (l ∷ []) [] e f h = absurd (omega (arith, f))
-one-clock d (l ∷ []) (o ∷ p ∷ os) e f h = absurd (omega (arith, f))
+one-clock d l he ho = ap₂ (λ (e : Device) (o : ℕ). record { device = e; output = o }) he (ap (λ (os : List ℕ). getD os 0 0) ho)
 
 -- both units have run
 module _ (d : Device) (ls : List ℕ) {u : Usart} {s : Spi} {e : Device} (hu : u ≡ serialRan (d .usart) ls) (hs : s ≡ spiRan (d .spi) ls) (he : e ≡ afterOf d u s) where

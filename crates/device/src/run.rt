@@ -5,10 +5,12 @@ use crate::serial_run::serial_clocks;
 use crate::spi_run::master_clocks;
 use crate::spi_run::off_clocks;
 use crate::spi_run::spi_clocks;
+use crate::unit::Clocked;
 use crate::unit::Device;
 use answer::Refusal;
 ghost use mathlib.Core.Path.{_≡_};
 ghost use lib.ListN.{length};
+ghost use Rattle.device.specs.Unit.{clockedOf};
 ghost use Rattle.device.specs.Run.{ranOf, outputsOf, areLevels, runOf, shown};
 
 // Whether no level byte has bit 5, 6 or 7 set. All are looked at, also after one that has: without a way out of the loop the compiler tests
@@ -26,8 +28,8 @@ fn are_levels(levels: &[u8]) -> bool
 }
 
 impl Device {
-    // Each unit by itself.
-    fn by_unit(self, levels: &[u8], outputs: &mut [u8]) -> Device
+    // One clock for each level byte, with an output byte for each.
+    fn clocks(self, levels: &[u8], outputs: &mut [u8]) -> Device
         requires { ⌜ length (now outputs) ≡ length (now levels) ⌝ }
         ensures { λ r. ⌜ r ≡ ranOf self (now (levels .entry)) ⌝ }
         ensures { λ _. ⌜ now (outputs .exit) ≡ outputsOf self (now (levels .entry)) ⌝ }
@@ -43,18 +45,18 @@ impl Device {
         self.after(u, off_clocks(s, levels))
     }
 
-    // One clock for each level byte, with an output byte for each.
-    fn clocks(self, levels: &[u8], outputs: &mut [u8]) -> Device
-        requires { ⌜ length (now outputs) ≡ length (now levels) ⌝ }
-        ensures { λ r. ⌜ r ≡ ranOf self (now (levels .entry)) ⌝ }
-        ensures { λ _. ⌜ now (outputs .exit) ≡ outputsOf self (now (levels .entry)) ⌝ }
+    // One clock, with the levels of the pins: a run of one. So each large function of a unit is called in one place, and the compiler puts
+    // it into the loops.
+    pub fn clock(self, level: u8) -> Clocked
+        ensures { λ r. ⌜ r ≡ clockedOf self level ⌝ }
     {
-        if levels.len() == 1 {
-            let c = self.clock(levels[0]);
-            outputs[0] = c.output;
-            return c.device;
+        let levels = [level];
+        let mut outputs = [0];
+        let d = self.clocks(&levels, &mut outputs);
+        Clocked {
+            device: d,
+            output: outputs[0],
         }
-        self.by_unit(levels, outputs)
     }
 
     // The lengths are looked at first, and all level bytes before any clock passes.

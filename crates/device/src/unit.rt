@@ -6,7 +6,7 @@ use spi::Levels;
 use spi::Spi;
 use usart::Usart;
 ghost use mathlib.Core.Path.{_≡_};
-ghost use Rattle.device.specs.Unit.{resetDevice, afterOf, withUsart, withSpi, levelsIn, clockOf, outputOf, clockedOf, requestsOf};
+ghost use Rattle.device.specs.Unit.{resetDevice, afterOf, withUsart, withSpi, levelsIn, outputOf, requestsOf};
 ghost use Rattle.device.specs.Register.{resetAt, serialWritten, spiWritten, writeOf, serialRead, spiRead, readOf, vectorOf};
 
 pub struct Device {
@@ -75,31 +75,11 @@ impl Device {
         self.after(u, s)
     }
 
-    fn next(self, level: u8) -> Device
-        ensures { λ r. ⌜ r ≡ clockOf self level ⌝ }
-    {
-        let u = self.usart.clock(level % 2 == 1);
-        let s = self.spi.clock(pin_levels(level));
-        self.after(u, s)
-    }
-
     // The output byte, with the level byte of this clock: only SS is looked at.
     fn output(self, level: u8) -> u8
         ensures { λ r. ⌜ r ≡ outputOf self level ⌝ }
     {
         self.usart.output() + self.spi.output(level / 16 % 2 == 1)
-    }
-
-    // One clock, with the levels of the pins.
-    pub fn clock(self, level: u8) -> Clocked
-        ensures { λ r. ⌜ r ≡ clockedOf self level ⌝ }
-    {
-        let d = self.next(level);
-        let o = d.output(level);
-        Clocked {
-            device: d,
-            output: o,
-        }
     }
 
     fn serial_written(self, w: usart::Written) -> Written
