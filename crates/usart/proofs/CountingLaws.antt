@@ -3,7 +3,7 @@
 use mathlib.Core.Path.{_≡_, refl, ap, sym, _∙_}
 use mathlib.Core.Bool.{Bool, true, false}
 use mathlib.Core.Logic.{_⊎_, inl, inr, ⊎-elim}
-use Prim.Native.Nat.{ℕ, suc, _+_, _-_, _≤_, _<_}
+use Prim.Native.Nat.{ℕ, zero, suc, _+_, _-_, _*_, _≤_, _<_}
 use native.Mathlib.Omega.{arith}
 use lib.Dec.{eqb, ltb}
 use borrow.Author.Tests.{eq-eqb, ne-eqb, lt-ltb, le-ltb, eqb-true, ltb-true, ltb-false}
@@ -11,7 +11,7 @@ use Rattle.choice.proofs.Picks.{pick-ind, split}
 use Rattle.frame.specs.Format.{samples, firstVote}
 use Rattle.frame.specs.declared.format.Format.{Format}
 use Rattle.frame.proofs.FormatLaws.{samples-half, first-vote-range}
-use Rattle.usart.specs.Baud.{ticks, leftOf}
+use Rattle.usart.specs.Baud.{ticks, leftOf, ticksIn}
 use Rattle.usart.specs.Sender.{isResting, steppedOf, senderOf, txdOf}
 use Rattle.usart.specs.Sampler.{still, castOf, votedOf, sampledOf, samplerOf}
 use Rattle.usart.specs.Receiver.{putOf, listenedOf}
@@ -41,6 +41,16 @@ least-le n a b =
 le-least : (n a b : ℕ) → n ≤ a → n ≤ b → n ≤ least a b
 unfolding least
 le-least n a b p q = pick-ind (λ (m : ℕ). n ≤ m) (ltb a b) a b (λ _. p) (λ _. q)
+
+-- at UBRR 0 every clock is a tick
+pub every-clock : (n : ℕ) (b : Baud) → b .ubrr ≡ 0 → b .left .0 ≡ 0 → n ≡ ticksIn b n
+unfolding ticksIn leftOf
+every-clock zero b z l = refl
+every-clock (suc n) b z l =
+    let e = every-clock n (record { ubrr = b .ubrr; left = record { 0 = b .ubrr } }) z z in rw l (omega (arith, e))
+
+pub every-tick : (ubrr : ℕ) {n k : ℕ} → ubrr ≡ 0 → n ≡ k * (ubrr + 1) → n ≡ k
+every-tick ubrr z e = e ∙ rw z (omega arith)
 
 -- the unit with other parts
 abbrev with : Usart → Baud → Sender → Receiver → Usart
@@ -162,6 +172,11 @@ ticking u n e h =
     (λ z q. record { every = λ _. eqb-true (u .baud .ubrr) 0 z; sender = least-le n _ _ q .0; receiver = least-le n _ _ q .1 })
     (λ z q. record { every = λ o. absurd (omega arith); sender = omega arith; receiver = omega arith })
     (rw e at h)
+
+-- and so many of them as there are clocks
+pub all-ticks : (u : Usart) {n k : ℕ} → ticks (u .baud) ≡ true → 1 ≤ n → n ≤ quietOf u → k ≡ ticksIn (u .baud) n → k ≡ n
+all-ticks u {n} e o h q =
+    q ∙ sym (every-clock n (u .baud) (ticking u n e h .every o) (eqb-true (u .baud .left .0) 0 e))
 
 pub waiting : (u : Usart) (n : ℕ) → ticks (u .baud) ≡ false → n ≤ quietOf u → n ≤ u .baud .left .0
 unfolding quietOf

@@ -1,4 +1,4 @@
--- Clocks that only count. Between ticks nothing but the baud counter moves; at UBRR 0, where every clock is a tick, most ticks only count
+-- A means, no rule: clocks that only count. Between ticks nothing but the baud counter moves; at UBRR 0, where every clock is a tick, most ticks only count
 -- one more of a bit: the sender within a bit, the receiver at samples that do not vote and are not a bit's last. RxD is not looked at in
 -- them, so many may pass at once. That they come to what `clockOf` says, one by one, is proved in `proofs/CountingLaws.antt`.
 use Prim.Native.Nat.{ℕ, _+_, _-_}
@@ -91,4 +91,4 @@ countedOf u n =
 
 -- at most n of them at once
 abbrev pub skippedOf : Usart → ℕ → Skipped
-skippedOf u n = record { usart = countedOf u (least (quietOf u) n); clocks = least (quietOf u) n }
+skippedOf u n = record { usart = countedOf u (least (quietOf u) n); clocks = record { 0 = least (quietOf u) n } }

@@ -1,5 +1,7 @@
+use crate::tick::Ticks;
+use span::Span;
 ghost use mathlib.Core.Path.{_≡_};
-ghost use Rattle.usart.specs.Baud.{leftOf, ticks, baudOf, loadedOf};
+ghost use Rattle.usart.specs.Baud.{leftOf, ticks, baudOf, ticksIn, clocksFor, loadedOf};
 
 // Clocks left in the baud counter until the next tick.
 pub struct Clocks(pub u16);
@@ -47,5 +49,22 @@ impl Baud {
             ubrr: ubrr,
             left: Clocks(ubrr),
         }
+    }
+
+    // The ticks in n clocks at UBRR 0, where every clock is a tick.
+    pub(crate) fn clocks_as_ticks(self, n: Span) -> Ticks
+        requires { ⌜ self .ubrr ≡ 0 ⌝ }
+        requires { ⌜ self .left .0 ≡ 0 ⌝ }
+        ensures { λ r. ⌜ r .0 ≡ ticksIn self (n .0) ⌝ }
+    {
+        Ticks(n.0)
+    }
+
+    // The clocks of n ticks, there.
+    pub(crate) fn ticks_as_clocks(self, n: Ticks) -> Span
+        requires { ⌜ self .ubrr ≡ 0 ⌝ }
+        ensures { λ r. ⌜ r .0 ≡ clocksFor self (n .0) ⌝ }
+    {
+        Span(n.0)
     }
 }

@@ -1,5 +1,5 @@
-// Clocks that only count, many at once. The `counted` functions require that n is at most what `quiet` says, so that no count runs over; the
-// format that they take stands in that alone.
+// Clocks that only count, many at once. Sender and receiver go by ticks, the baud counter by clocks. The `counted` functions require that n
+// is at most what `quiet` says, so that no count runs over; the format that they take stands in that alone.
 use crate::baud::Baud;
 use crate::baud::Clocks;
 use crate::receiver::Receiver;
@@ -9,86 +9,88 @@ use crate::sampler::Sampler;
 use crate::sender::Sender;
 use crate::sender::Shifter;
 use crate::sender::Transmission;
+use crate::tick::Ticks;
 use crate::unit::Usart;
 use frame::Format;
+use span::Span;
 ghost use mathlib.Core.Path.{_≡_};
 ghost use Prim.Native.Nat.{_-_, _≤_};
 ghost use Rattle.usart.specs.Counting.{least, senderQuiet, bitQuiet, samplerQuiet, receiverQuiet, quietOf, later, countedSender, countedSampler, countedReceiver, countedBaud, countedOf, skippedOf};
 
 // A part at rest sets no end to the ticks that only count.
-const UNLIMITED: usize = 65535;
+const UNLIMITED: Ticks = Ticks(65535);
 
 // The unit after clocks that only count, and how many they were.
 pub struct Skipped {
     pub usart: Usart,
-    pub clocks: usize,
+    pub clocks: Span,
 }
 
-fn least(a: usize, b: usize) -> usize
-    ensures { λ r. ⌜ r ≡ least a b ⌝ }
+fn shorter(a: Span, b: Span) -> Span
+    ensures { λ r. ⌜ r .0 ≡ least (a .0) (b .0) ⌝ }
 {
-    if a < b { a } else { b }
+    if a.0 < b.0 { a } else { b }
 }
 
 impl Sample {
-    fn until(self, last: u8) -> usize
-        ensures { λ r. ⌜ r ≡ last - self .0 ⌝ }
+    fn until(self, last: u8) -> Ticks
+        ensures { λ r. ⌜ r .0 ≡ last - self .0 ⌝ }
     {
         if self.0 < last {
-            (last - self.0) as usize
+            Ticks((last - self.0) as usize)
         } else {
-            0
+            Ticks(0)
         }
     }
 
-    fn later(self, n: usize) -> Sample
-        requires { ⌜ n ≤ 255 - self .0 ⌝ }
-        ensures { λ r. ⌜ r ≡ later self n ⌝ }
+    fn later(self, n: Ticks) -> Sample
+        requires { ⌜ n .0 ≤ 255 - self .0 ⌝ }
+        ensures { λ r. ⌜ r ≡ later self (n .0) ⌝ }
     {
-        Sample(self.0 + n as u8)
+        Sample(self.0 + n.0 as u8)
     }
 
     // Of a bit that is received, with so many samples taken.
-    fn quiet(self, f: Format) -> usize
-        ensures { λ r. ⌜ r ≡ bitQuiet f (self .0) ⌝ }
+    fn quiet(self, f: Format) -> Ticks
+        ensures { λ r. ⌜ r .0 ≡ bitQuiet f (self .0) ⌝ }
     {
         let vote = f.first_vote();
         if self.0 < vote {
             return self.until(vote - 1);
         }
         if self.0 < vote + 2 {
-            return 0;
+            return Ticks(0);
         }
         self.until(f.samples() - 1)
     }
 }
 
 impl Baud {
-    fn counted(self, n: usize) -> Baud
-        requires { ⌜ n ≤ self .left .0 ⌝ }
-        ensures { λ r. ⌜ r ≡ countedBaud self n ⌝ }
+    fn counted(self, n: Span) -> Baud
+        requires { ⌜ n .0 ≤ self .left .0 ⌝ }
+        ensures { λ r. ⌜ r ≡ countedBaud self (n .0) ⌝ }
     {
         Baud {
             ubrr: self.ubrr,
-            left: Clocks(self.left.0 - n as u16),
+            left: Clocks(self.left.0 - n.0 as u16),
         }
     }
 }
 
 impl Sender {
-    fn quiet(self, f: Format) -> usize
-        ensures { λ r. ⌜ r ≡ senderQuiet f (self .buffer) (self .shifter) ⌝ }
+    fn quiet(self, f: Format) -> Ticks
+        ensures { λ r. ⌜ r .0 ≡ senderQuiet f (self .buffer) (self .shifter) ⌝ }
     {
         let s = self.shifter;
         match s {
-            Shifter::Resting => { if self.vacant() { UNLIMITED } else { 0 } }
+            Shifter::Resting => { if self.vacant() { UNLIMITED } else { Ticks(0) } }
             Shifter::Sending(t) => t.sample.until(f.samples() - 1),
         }
     }
 
-    fn counted(self, f: Format, n: usize) -> Sender
-        requires { ⌜ n ≤ senderQuiet f (self .buffer) (self .shifter) ⌝ }
-        ensures { λ r. ⌜ r ≡ countedSender self n ⌝ }
+    fn counted(self, f: Format, n: Ticks) -> Sender
+        requires { ⌜ n .0 ≤ senderQuiet f (self .buffer) (self .shifter) ⌝ }
+        ensures { λ r. ⌜ r ≡ countedSender self (n .0) ⌝ }
     {
         let b = self.buffer;
         let s = self.shifter;
@@ -111,18 +113,18 @@ impl Sender {
 }
 
 impl Sampler {
-    fn quiet(self, f: Format) -> usize
-        ensures { λ r. ⌜ r ≡ samplerQuiet f self ⌝ }
+    fn quiet(self, f: Format) -> Ticks
+        ensures { λ r. ⌜ r .0 ≡ samplerQuiet f self ⌝ }
     {
         match self {
-            Sampler::Idle(_) => 0,
+            Sampler::Idle(_) => Ticks(0),
             Sampler::Receiving(r) => r.sample.quiet(f),
         }
     }
 
-    fn counted(self, f: Format, n: usize) -> Sampler
-        requires { ⌜ n ≤ samplerQuiet f self ⌝ }
-        ensures { λ r. ⌜ r ≡ countedSampler self n ⌝ }
+    fn counted(self, f: Format, n: Ticks) -> Sampler
+        requires { ⌜ n .0 ≤ samplerQuiet f self ⌝ }
+        ensures { λ r. ⌜ r ≡ countedSampler self (n .0) ⌝ }
     {
         match self {
             Sampler::Idle(last) => Sampler::Idle(last),
@@ -141,16 +143,16 @@ impl Sampler {
 }
 
 impl Receiver {
-    fn quiet(self, rxen: bool, f: Format) -> usize
-        ensures { λ r. ⌜ r ≡ receiverQuiet rxen f self ⌝ }
+    fn quiet(self, rxen: bool, f: Format) -> Ticks
+        ensures { λ r. ⌜ r .0 ≡ receiverQuiet rxen f self ⌝ }
     {
         let s = self.sampler;
         if rxen { s.quiet(f) } else { UNLIMITED }
     }
 
-    fn counted(self, rxen: bool, f: Format, n: usize) -> Receiver
-        requires { ⌜ n ≤ receiverQuiet rxen f self ⌝ }
-        ensures { λ r. ⌜ r ≡ countedReceiver rxen self n ⌝ }
+    fn counted(self, rxen: bool, f: Format, n: Ticks) -> Receiver
+        requires { ⌜ n .0 ≤ receiverQuiet rxen f self ⌝ }
+        ensures { λ r. ⌜ r ≡ countedReceiver rxen self (n .0) ⌝ }
     {
         let s = self.sampler;
         let q = self.queue;
@@ -166,24 +168,26 @@ impl Receiver {
 
 impl Usart {
     // Clocks ahead that only count, whatever the level of RxD.
-    fn quiet(self) -> usize
-        ensures { λ r. ⌜ r ≡ quietOf self ⌝ }
+    fn quiet(self) -> Span
+        ensures { λ r. ⌜ r .0 ≡ quietOf self ⌝ }
     {
+        let b = self.baud;
         let f = self.format;
-        if self.baud.ticks() {
-            if self.baud.ubrr == 0 {
-                let a = self.sender.quiet(f);
-                let b = self.receiver.quiet(self.control.rxen, f);
-                return least(a, b);
+        if b.ticks() {
+            if b.ubrr == 0 {
+                let s = self.sender.quiet(f);
+                let r = self.receiver.quiet(self.control.rxen, f);
+                return b.ticks_as_clocks(s.least(r));
             }
-            return 0;
+            return Span(0);
         }
-        self.baud.left.0 as usize
+        Span(b.left.0 as usize)
     }
 
-    fn counted(self, n: usize) -> Usart
-        requires { ⌜ n ≤ quietOf self ⌝ }
-        ensures { λ r. ⌜ r ≡ countedOf self n ⌝ }
+    fn counted(self, n: Span) -> Usart
+        requires { ⌜ 1 ≤ n .0 ⌝ }
+        requires { ⌜ n .0 ≤ quietOf self ⌝ }
+        ensures { λ r. ⌜ r ≡ countedOf self (n .0) ⌝ }
     {
         let b = self.baud;
         let f = self.format;
@@ -191,12 +195,13 @@ impl Usart {
         let s = self.sender;
         let r = self.receiver;
         if b.ticks() {
+            let k = b.clocks_as_ticks(n);
             return Usart {
                 baud: b,
                 format: f,
                 control: c,
-                sender: s.counted(f, n),
-                receiver: r.counted(c.rxen, f, n),
+                sender: s.counted(f, k),
+                receiver: r.counted(c.rxen, f, k),
             };
         }
         Usart {
@@ -209,14 +214,14 @@ impl Usart {
     }
 
     // At most n clocks that only count, at once: RxD is not looked at in them.
-    pub fn skip(self, n: usize) -> Skipped
-        ensures { λ r. ⌜ r ≡ skippedOf self n ⌝ }
+    pub fn skip(self, n: Span) -> Skipped
+        ensures { λ r. ⌜ r ≡ skippedOf self (n .0) ⌝ }
     {
-        let k = least(self.quiet(), n);
-        if k == 0 {
+        let k = shorter(self.quiet(), n);
+        if k.0 == 0 {
             return Skipped {
                 usart: self,
-                clocks: 0,
+                clocks: k,
             };
         }
         let u = self.counted(k);

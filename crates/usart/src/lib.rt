@@ -9,6 +9,7 @@ mod sample;
 mod sampler;
 mod sender;
 mod settings;
+mod tick;
 mod unit;
 mod write;
 
@@ -34,6 +35,7 @@ pub use settings::parity_of;
 pub use settings::size_code;
 pub use settings::size_of;
 pub use settings::upm;
+pub use tick::Ticks;
 pub use unit::Control;
 pub use unit::Usart;
 pub use write::Register;

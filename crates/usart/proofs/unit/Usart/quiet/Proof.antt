@@ -1,7 +1,8 @@
-use mathlib.Core.Path.{refl}
+use mathlib.Core.Path.{refl, _∙_}
 use borrow.Author.Tests.{eq-eqb, ne-eqb}
 use Rattle.choice.proofs.Picks.{pick-true, pick-false}
 use Rattle.usart.specs.Counting.{quietOf}
+use Rattle.usart.proofs.CountingLaws.{every-tick}
 use borrow.Author.Needs.{needs}
 use Rattle.usart.proofs.unit.Usart.quiet.Statement.{statement}
 use Rattle.usart.proofs.unit.Usart.quiet.Tie as tie
@@ -18,16 +19,24 @@ quiet-requires-2 c κs = search needs
 least-requires : tie.Need-least-requires
 least-requires c κs = search needs
 
+ticks-as-clocks-requires : tie.Need-ticks-as-clocks-requires
+ticks-as-clocks-requires c κs = c .before .before .before .if2 .taken
+
 returns : tie.Need-returns
 unfolding quietOf
-returns c = rw (← c .before .before .before .before .before .before .ticks .ensures) (pick-true _ _ _ _ (c .before .before .before .before .before .if1 .taken) (pick-true _ _ _ _ (eq-eqb _ _ (c .before .before .before .if2 .taken)) (rw (← c .before .before .quiet .ensures, ← c .before .quiet2 .ensures) (c .least .ensures))))
+returns c =
+    rw (← c .before .before .before .before .before .before .before .ticks .ensures)
+    (pick-true _ _ _ _ (c .before .before .before .before .before .before .if1 .taken)
+    (pick-true _ _ _ _ (eq-eqb _ _ (c .before .before .before .before .if2 .taken))
+    (every-tick _ (c .before .before .before .before .if2 .taken) (c .ticks-as-clocks .ensures)
+    ∙ rw (← c .before .before .before .quiet .ensures, ← c .before .before .quiet2 .ensures) (c .before .least .ensures))))
 
 returns-2 : tie.Need-returns-2
 unfolding quietOf
 returns-2 c = rw (← c .before .before .before .ticks .ensures) (pick-true _ _ _ _ (c .before .before .if1 .taken) (pick-false _ _ _ _ (ne-eqb _ _ (c .if2 .left)) refl))
 
-cast-result : tie.Need-cast-result
-cast-result c = search needs
+cast-t9 : tie.Need-cast-t9
+cast-t9 c = search needs
 
 returns-3 : tie.Need-returns-3
 unfolding quietOf
@@ -41,7 +50,8 @@ quiet-spec =
     quiet-requires
     quiet-requires-2
     least-requires
+    ticks-as-clocks-requires
     returns
     returns-2
-    cast-result
+    cast-t9
     returns-3)

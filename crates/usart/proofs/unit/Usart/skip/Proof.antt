@@ -1,4 +1,5 @@
 use mathlib.Core.Path.{_≡_, sym, _∙_}
+use native.Mathlib.Omega.{arith}
 use Rattle.usart.specs.Counting.{quietOf, least}
 use Rattle.usart.proofs.CountingLaws.{least-low, counted-none}
 use borrow.Author.Needs.{needs}
@@ -8,20 +9,21 @@ use Rattle.usart.proofs.unit.Usart.skip.Tie as tie
 quiet-requires : tie.Need-quiet-requires
 quiet-requires c κs = search needs
 
-least-requires : tie.Need-least-requires
-least-requires c κs = search needs
+shorter-requires : tie.Need-shorter-requires
+shorter-requires c κs = search needs
 
 returns : tie.Need-returns
 returns c =
-    let u = c .before .before .before .args .self in
-    let e : least (quietOf u) (c .before .before .before .args .n) ≡ 0 = sym (rw (c .before .least .ensures, c .before .before .quiet .ensures)) ∙ c .if1 .taken in
-    rw (e, counted-none u)
+    let u = c .before .before .before .before .args .self in
+    let e : least (quietOf u) (c .before .before .before .before .args .n .0) ≡ 0 = sym (rw (c .before .before .shorter .ensures, c .before .before .before .quiet .ensures)) ∙ c .if1 .taken in
+    rw (e, counted-none u, c .if1 .taken)
 
 counted-requires : tie.Need-counted-requires
-counted-requires c κs = rw (c .before .least .ensures, c .before .before .quiet .ensures) (least-low _ _)
+counted-requires c κs =
+    (omega (arith, c .if1 .left), rw (c .before .before .shorter .ensures, c .before .before .before .quiet .ensures) (least-low _ _))
 
 returns-2 : tie.Need-returns-2
-returns-2 c = rw (c .counted .ensures, c .before .before .least .ensures, c .before .before .before .quiet .ensures)
+returns-2 c = rw (c .counted .ensures, c .before .before .before .shorter .ensures, c .before .before .before .before .quiet .ensures)
 
 pub skip-spec : {M : Type 1} → statement M
-skip-spec = tie.close (tie.spec quiet-requires least-requires returns counted-requires returns-2)
+skip-spec = tie.close (tie.spec quiet-requires shorter-requires returns counted-requires returns-2)

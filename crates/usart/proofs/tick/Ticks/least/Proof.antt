@@ -2,8 +2,8 @@ use mathlib.Core.Path.{refl}
 use borrow.Author.Tests.{lt-ltb, le-ltb}
 use Rattle.choice.proofs.Picks.{pick-true, pick-false}
 use Rattle.usart.specs.Counting.{least}
-use Rattle.usart.proofs.count.least.Statement.{statement}
-use Rattle.usart.proofs.count.least.Tie as tie
+use Rattle.usart.proofs.tick.Ticks.least.Statement.{statement}
+use Rattle.usart.proofs.tick.Ticks.least.Tie as tie
 
 returns : tie.Need-returns
 unfolding least
