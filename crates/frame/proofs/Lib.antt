@@ -2,4 +2,3 @@ pub mod FormatLaws
 pub mod ParityLaws
 pub mod VoteLaws
 pub mod WordLaws
-pub mod LimitLaws

@@ -2,4 +2,3 @@ pub mod Format
 pub mod Parity
 pub mod Word
 pub mod Vote
-pub mod Limit

@@ -10,7 +10,8 @@ unfoldable pub sumOfBits : ℕ → ℕ → ℕ
 sumOfBits zero x = 0
 sumOfBits (suc n) x = x % 2 + sumOfBits n (x / 2)
 
--- the parity bit of n data bits: their exclusive or, which is their sum modulo 2; odd, the opposite; 0 where there is none
+-- the parity bit of n data bits: their exclusive or, which is their sum modulo 2; odd, the opposite; 0 where there is
+-- none
 abbrev pub parityIn : Parity → ℕ → ℕ → ℕ
 parityIn Off n x = 0
 parityIn Even n x = sumOfBits n x % 2

@@ -1,7 +1,6 @@
-// The frame: its format, the word it puts on the line, parity, the majority vote, and the recommended rate limits. It knows nothing
-// of time or registers.
+// The frame: its format, the word it puts on the line, parity and the majority vote. It knows nothing of time or
+// registers.
 mod format;
-mod limit;
 mod parity;
 mod vote;
 mod word;

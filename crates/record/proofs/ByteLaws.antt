@@ -5,14 +5,10 @@ use mathlib.Core.List.{List, [], _∷_}
 use native.Mathlib.Omega.{arith}
 use lib.ListN.{length, getD}
 use Rattle.frame.specs.Format.{samples, wordBits, stopBits}
-use Rattle.frame.specs.declared.format.Size.{Size}
-use Rattle.frame.specs.declared.format.Size.the-variants.{Five, Six, Seven, Eight, Nine}
-use Rattle.frame.specs.declared.format.Parity.{Parity}
-use Rattle.frame.specs.declared.format.Parity.the-variants.{Off, Even, Odd}
 use Rattle.frame.specs.declared.format.Format.{Format}
 use Rattle.frame.proofs.FormatLaws.{word-bits-range, stop-bits-range, samples-half, first-vote-range}
-use Rattle.usart.specs.Settings.{codeOf, upmOf}
 use Rattle.usart.specs.Valid.{ValidShifter, ValidSampler}
+use Rattle.usart.proofs.SettingsLaws.{code-lt, upm-lt}
 use Rattle.usart.specs.declared.sender.Shifter.{Shifter}
 use Rattle.usart.specs.declared.sender.Shifter.the-variants.{Resting, Sending}
 use Rattle.usart.specs.declared.sampler.Sampler.{Sampler}
@@ -51,18 +47,6 @@ low-lt x = omega arith
 bit-lt : (b : Bool) → bit b < 2
 bit-lt true = omega arith
 bit-lt false = omega arith
-
-code-lt : (z : Size) → codeOf z < 8
-code-lt Five = omega arith
-code-lt Six = omega arith
-code-lt Seven = omega arith
-code-lt Eight = omega arith
-code-lt Nine = omega arith
-
-upm-lt : (p : Parity) → upmOf p < 4
-upm-lt Off = omega arith
-upm-lt Even = omega arith
-upm-lt Odd = omega arith
 
 flag-lt : (f : Flag) → flagCode f < 3
 flag-lt Clear = omega arith

@@ -10,11 +10,11 @@ use Rattle.frame.specs.declared.format.Format.{Format}
 use Rattle.usart.specs.Sender.{isVacant}
 use Rattle.usart.specs.Settings.{codeOf, sizeOf, settingsOf}
 use Rattle.usart.specs.Unit.{isBusy, txcRequested}
-use Rattle.usart.specs.Write.{formattedOf, clearedOf, withU2x, writeA, controlled, withSize, codedB, isReservedC, formatIn, sizedC, codedC, writeC, timedOf, writeH, transmittedOf, writeOf, vectorOf}
+use Rattle.usart.specs.Write.{formattedOf, txcCleared, withU2x, writeA, controlled, withSize, codedB, isReservedC, formatIn, sizedC, codedC, writeC, timedOf, writeH, transmittedOf, writeOf, vectorOf}
 use Rattle.usart.specs.Event.{settled, nextOf, write, read, vector}
 use Rattle.usart.specs.declared.baud.Baud.{Baud}
 use Rattle.usart.specs.declared.sender.Transmission.{Transmission}
-use Rattle.usart.specs.declared.sender.Shifter.the-variants.{Sending}
+use Rattle.usart.specs.declared.sender.ShiftRegister.the-variants.{Sending}
 use Rattle.usart.specs.declared.settings.Coded.{Coded}
 use Rattle.usart.specs.declared.settings.Coded.the-variants.{Known, Reserved}
 use Rattle.usart.specs.declared.unit.Usart.{Usart}
@@ -50,13 +50,13 @@ module _ (u : Usart) (t : Transmission) (e : u .sender .shifter ≡ Sending t) w
   unfolding timedOf
   timed b = rw busy (same u)
 
-  cleared : (v : ℕ) → Kept u (clearedOf u v)
-  unfolding clearedOf
+  cleared : (v : ℕ) → Kept u (txcCleared u v)
+  unfolding txcCleared
   cleared v = pick-ind (Kept u) (eqb (v / 64 % 2) 1) _ _ (λ _. record { baud = refl; format = refl; shifter = refl }) (λ _. same u)
 
   write-a : (v : ℕ) → KeptBy u (writeA u v)
   unfolding writeA
-  write-a v = pick-ind (KeptBy u) (eqb (v % 2) 1) _ _ (λ _. same u) (λ _. formatted (clearedOf u v) (withU2x (u .format) (eqb (v / 2 % 2) 1)) (cleared v))
+  write-a v = pick-ind (KeptBy u) (eqb (v % 2) 1) _ _ (λ _. same u) (λ _. formatted (txcCleared u v) (withU2x (u .format) (eqb (v / 2 % 2) 1)) (cleared v))
 
   coded-b : (v : ℕ) (c : Coded) → KeptBy u (codedB u v c)
   coded-b v (Known z) = formatted (controlled u v) (withSize (u .format) z) (record { baud = refl; format = refl; shifter = refl })

@@ -21,8 +21,8 @@ use Rattle.usart.specs.declared.baud.Baud.{Baud}
 use Rattle.usart.specs.declared.sender.Buffer.{Buffer}
 use Rattle.usart.specs.declared.sender.Buffer.the-variants.{Vacant, Full}
 use Rattle.usart.specs.declared.sender.Transmission.{Transmission}
-use Rattle.usart.specs.declared.sender.Shifter.{Shifter}
-use Rattle.usart.specs.declared.sender.Shifter.the-variants.{Resting, Sending}
+use Rattle.usart.specs.declared.sender.ShiftRegister.{ShiftRegister}
+use Rattle.usart.specs.declared.sender.ShiftRegister.the-variants.{Resting, Sending}
 use Rattle.usart.specs.declared.sender.Sender.{Sender}
 use Rattle.usart.specs.declared.sampler.Reception.{Reception}
 use Rattle.usart.specs.declared.sampler.Sampler.{Sampler}
@@ -61,7 +61,7 @@ same-parts u p q r = cc
 
 module _ (f : Format) where
   -- the sender's count has room for the ticks that it only counts
-  pub sending-fits : (b : Buffer) (s : Shifter) (t : Transmission) (n : ℕ) → s ≡ Sending t → n ≤ senderQuiet f b s → n ≤ 255 - t .sample .0
+  pub sending-fits : (b : Buffer) (s : ShiftRegister) (t : Transmission) (n : ℕ) → s ≡ Sending t → n ≤ senderQuiet f b s → n ≤ 255 - t .sample .0
   unfolding senderQuiet
   sending-fits b s t n e h =
       let g : n ≤ senderQuiet f b (Sending t) = rw e at h in omega (arith, samples-half f, first-vote-range f)
@@ -70,13 +70,13 @@ module _ (f : Format) where
   unfolding senderQuiet steppedOf
   sender-clock s h = by (s .buffer) (s .shifter) (s .txc) h
     where
-      by : (b : Buffer) (x : Shifter) (c : Bool) → 1 ≤ senderQuiet f b x
+      by : (b : Buffer) (x : ShiftRegister) (c : Bool) → 1 ≤ senderQuiet f b x
           → senderOf f (record { buffer = b; shifter = x; txc = c }) ≡ countedSender (record { buffer = b; shifter = x; txc = c }) 1
       by Vacant Resting c h = refl
       by (Full d) Resting c h = absurd (omega arith)
       by b (Sending t) c h = rw (lt-ltb (t .sample .0) (samples f - 1) (omega arith))
 
-  sender-after : (b : Buffer) (s : Shifter) (k : ℕ) → suc k ≤ senderQuiet f b s → k ≤ senderQuiet f b (countedShifter s 1)
+  sender-after : (b : Buffer) (s : ShiftRegister) (k : ℕ) → suc k ≤ senderQuiet f b s → k ≤ senderQuiet f b (countedShifter s 1)
   unfolding senderQuiet
   sender-after b Resting k h = omega arith
   sender-after b (Sending t) k h = omega arith
@@ -188,7 +188,7 @@ least-low a b = least-le (least a b) a b (omega arith) .0
 pub rest-stays : (s : Sender) (n : ℕ) → s .shifter ≡ Resting → s ≡ countedSender s n
 rest-stays s n e =
     let q : s .shifter ≡ countedShifter (s .shifter) n = rw e in
-    ap (λ (x : Shifter). record { buffer = s .buffer; shifter = x; txc = s .txc }) q
+    ap (λ (x : ShiftRegister). record { buffer = s .buffer; shifter = x; txc = s .txc }) q
 
 -- the two forms of the unit after n of them
 abbrev tickedBy : Usart → ℕ → Usart
@@ -238,7 +238,7 @@ quiet-after u k h = split (ticks (u .baud))
     (λ e. rw (counted-tick u 1 e) (ticked-after u k e (ticking u (suc k) e h)))
     (λ e. rw (counted-wait u 1 e) (waited-after u k (waiting u (suc k) e h)))
 
-shifter-none : (s : Shifter) → countedShifter s 0 ≡ s
+shifter-none : (s : ShiftRegister) → countedShifter s 0 ≡ s
 shifter-none Resting = refl
 shifter-none (Sending t) =
     let e : t .sample .0 + 0 ≡ t .sample .0 = omega arith in rw e
@@ -260,7 +260,7 @@ counted-none u = split (ticks (u .baud))
     let none : u .baud .left .0 - 0 ≡ u .baud .left .0 = omega arith in
     rw (counted-wait u 0 e, none))
 
-shifter-more : (s : Shifter) (k : ℕ) → countedShifter (countedShifter s 1) k ≡ countedShifter s (suc k)
+shifter-more : (s : ShiftRegister) (k : ℕ) → countedShifter (countedShifter s 1) k ≡ countedShifter s (suc k)
 shifter-more Resting k = refl
 shifter-more (Sending t) k =
     let e : t .sample .0 + 1 + k ≡ t .sample .0 + suc k = omega arith in rw e
@@ -290,15 +290,15 @@ counted-more u k h = split (ticks (u .baud))
     (λ e.
     rw (counted-tick u 1 e, counted-tick u (suc k) e)
     (counted-tick (tickedBy u 1) k e
-    ∙ same-parts u refl (ap (λ (x : Shifter). record { buffer = u .sender .buffer; shifter = x; txc = u .sender .txc }) (shifter-more (u .sender .shifter) k))
+    ∙ same-parts u refl (ap (λ (x : ShiftRegister). record { buffer = u .sender .buffer; shifter = x; txc = u .sender .txc }) (shifter-more (u .sender .shifter) k))
     (receiver-more (u .control .rxen) (u .receiver) k)))
     (λ e. rw (counted-wait u 1 e, counted-wait u (suc k) e) (waited-more u k (waiting u (suc k) e h)))
 
-resting-counted : (s : Shifter) (n : ℕ) → isResting (countedShifter s n) ≡ isResting s
+resting-counted : (s : ShiftRegister) (n : ℕ) → isResting (countedShifter s n) ≡ isResting s
 resting-counted Resting n = refl
 resting-counted (Sending t) n = refl
 
-txd-counted : (f : Format) (s : Shifter) (n : ℕ) → txdOf f (countedShifter s n) ≡ txdOf f s
+txd-counted : (f : Format) (s : ShiftRegister) (n : ℕ) → txdOf f (countedShifter s n) ≡ txdOf f s
 txd-counted f Resting n = refl
 txd-counted f (Sending t) n = refl
 

@@ -9,7 +9,7 @@ use Rattle.usart.specs.Receiver.{stopped}
 use Rattle.usart.specs.Event.{Event, clock, write, read, vector}
 use Rattle.usart.specs.Line.{Sent, lineLevel}
 use Rattle.usart.specs.declared.sender.Buffer.the-variants.{Vacant, Full}
-use Rattle.usart.specs.declared.sender.Shifter.the-variants.{Resting}
+use Rattle.usart.specs.declared.sender.ShiftRegister.the-variants.{Resting}
 use Rattle.usart.specs.declared.sampler.Sampler.the-variants.{Idle}
 use Rattle.usart.specs.declared.queue.Places.the-variants.{Empty}
 use Rattle.usart.specs.declared.unit.Usart.{Usart}

@@ -2,6 +2,7 @@ pub mod ClosedLists
 pub mod Examples
 pub mod Cases
 pub mod Witness
+pub mod LimitLaws
 pub mod Rates
 pub mod LineLaws
 pub mod Noise
@@ -17,5 +18,6 @@ pub mod OneBit
 pub mod ValidLaws
 pub mod OutputLaws
 pub mod AppendLaws
+pub mod SettingsLaws
 pub mod RefusalLaws
 pub mod CountingLaws

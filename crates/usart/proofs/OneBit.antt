@@ -22,26 +22,26 @@ use Rattle.usart.specs.Bit.{OnLine, Begins, clocksIn, Lasts, BitLasts}
 use Rattle.usart.specs.declared.sender.Buffer.{Buffer}
 use Rattle.usart.specs.declared.sender.Buffer.the-variants.{Vacant, Full}
 use Rattle.usart.specs.declared.sender.Transmission.{Transmission}
-use Rattle.usart.specs.declared.sender.Shifter.{Shifter}
-use Rattle.usart.specs.declared.sender.Shifter.the-variants.{Resting, Sending}
+use Rattle.usart.specs.declared.sender.ShiftRegister.{ShiftRegister}
+use Rattle.usart.specs.declared.sender.ShiftRegister.the-variants.{Resting, Sending}
 use Rattle.usart.specs.declared.sender.Sender.{Sender}
 use Rattle.usart.specs.declared.unit.Usart.{Usart}
 use Rattle.usart.proofs.ClockLaws.{clock-tick, clock-wait}
 use Rattle.usart.proofs.BusyLaws.{Kept, kept-write, kept-read, kept-vector}
 
-abbrev sendingAt : ℕ → ℕ → ℕ → Shifter
+abbrev sendingAt : ℕ → ℕ → ℕ → ShiftRegister
 sendingAt w b n = Sending (record { word = w; bit = b; sample = record { 0 = n } })
 
 -- what is in the shifter is one word, one bit and one count
-abbrev wordIn : Shifter → ℕ
+abbrev wordIn : ShiftRegister → ℕ
 wordIn Resting = 0
 wordIn (Sending t) = t .word
 
-abbrev bitIn : Shifter → ℕ
+abbrev bitIn : ShiftRegister → ℕ
 bitIn Resting = 0
 bitIn (Sending t) = t .bit
 
-abbrev passedIn : Shifter → ℕ
+abbrev passedIn : ShiftRegister → ℕ
 passedIn Resting = 0
 passedIn (Sending t) = t .sample .0
 
@@ -59,7 +59,7 @@ unfolding outputOf isDriven
 driven u w b n e = rw e (driven-by (u .control .txen) (isVacant (u .sender .buffer)) (digit (frameBit (wordBits (u .format)) w b) + 16))
 
 -- a clock, by the baud counter before it: k is in the counter after it, and x in the shifter
-record Clocked (u v : Usart) (k : ℕ) (x : Shifter) : Type 0 where
+record Clocked (u v : Usart) (k : ℕ) (x : ShiftRegister) : Type 0 where
   format : v .format ≡ u .format
   rate : v .baud .ubrr ≡ u .baud .ubrr
   counter : v .baud .left .0 ≡ k
@@ -111,17 +111,17 @@ module _ (f : Format) where
 
   -- a bit that is in the shifter after a tick was there before it, or none of its ticks has passed
   module _ (w b n : ℕ) where
-    abbrev Fresh : Shifter → Type 0
+    abbrev Fresh : ShiftRegister → Type 0
     Fresh x = (n ≡ 0) ⊎ ((m : ℕ) × (x ≡ sendingAt w b m))
 
-    fresh-moved : (x : Shifter) (y : Buffer) (kept txc : Bool) → movedFrom f y kept txc .shifter ≡ sendingAt w b n → Fresh x
+    fresh-moved : (x : ShiftRegister) (y : Buffer) (kept txc : Bool) → movedFrom f y kept txc .shifter ≡ sendingAt w b n → Fresh x
     fresh-moved x Vacant kept txc e = absurd (rests-not e)
     fresh-moved x (Full d) kept txc e = inl (sym (ap passedIn e))
 
     there : (t : Transmission) → t .word ≡ w → t .bit ≡ b → Sending t ≡ sendingAt w b (t .sample .0)
     there t p q = ap₂ (λ (x y : ℕ). sendingAt x y (t .sample .0)) p q
 
-    fresh : (s : Sender) (x : Shifter) → shiftedOn f s x .shifter ≡ sendingAt w b n → Fresh x
+    fresh : (s : Sender) (x : ShiftRegister) → shiftedOn f s x .shifter ≡ sendingAt w b n → Fresh x
     unfolding steppedOf
     fresh s Resting = fresh-moved Resting (s .buffer) (s .txc) (s .txc)
     fresh s (Sending t) =
@@ -175,7 +175,7 @@ module _ (f : Format) where
     clocked : (k : ℕ) (u : Usart) (rxd : Bool) → Within k u → suc k < S * M → Within (suc k) (clockOf u rxd)
     clocked k u rxd i h = by (u .baud .left .0) refl
       where
-        goes : (left n : ℕ) (x : Shifter) → Clocked u (clockOf u rxd) left x → x ≡ sendingAt w b n → n < S → suc k + left ≡ n * M + ubrr
+        goes : (left n : ℕ) (x : ShiftRegister) → Clocked u (clockOf u rxd) left x → x ≡ sendingAt w b n → n < S → suc k + left ≡ n * M + ubrr
             → Within (suc k) (clockOf u rxd)
         goes left n x c e g q = record {
           format = c .format ∙ i .format;
@@ -293,7 +293,7 @@ begun u rxd w b g = by (u .baud .left .0) refl
 pub bit-lasts : (u : Usart) → BitLasts (bitClocks u) u
 bit-lasts u = record {
   first = λ rxd d left rest full.
-      loads (u .format) d u rxd (u .sender .txc) (u .sender .txc) refl left full (ap (λ (x : Shifter). shiftedOn (u .format) (u .sender) x .shifter) rest)
+      loads (u .format) d u rxd (u .sender .txc) (u .sender .txc) refl left full (ap (λ (x : ShiftRegister). shiftedOn (u .format) (u .sender) x .shifter) rest)
       (λ o. rests-not (sym rest ∙ o .shifter));
   each = λ rxd w b g. lasts (u .format) (u .baud .ubrr) w b (clockOf u rxd) (begun u rxd w b g);
 }

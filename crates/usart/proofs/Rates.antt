@@ -4,10 +4,10 @@ use Prim.Native.Nat.{ℕ, _+_, _*_, _/_, _≤_, _<_}
 use native.Mathlib.Nat.{mul-le-mul-left, mul-le-mul-right, div-eq-of-lt-le}
 use native.Mathlib.Omega.{arith}
 use Rattle.frame.specs.Format.{samples, firstVote, wordBits}
-use Rattle.frame.specs.Limit.{limit, Within}
+use Rattle.usart.specs.Limit.{limit, Within}
 use Rattle.frame.specs.declared.format.Format.{Format}
 use Rattle.frame.proofs.FormatLaws.{samples-half, first-vote-range, word-bits-range}
-use Rattle.frame.proofs.LimitLaws.{limit-small}
+use Rattle.usart.proofs.LimitLaws.{limit-small}
 
 -- the sender's bit is P/Q clocks, the receiver's 2 * h samples of M clocks, and D + 1 bits of their difference are at most 0.18 of a bit
 pub record Rates (h M P Q D : ℕ) : Type 0 where

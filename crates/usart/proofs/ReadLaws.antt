@@ -6,13 +6,14 @@ use Prim.Native.Nat.{ℕ, zero, suc, _+_, _*_, _/_, _%_, _≤_, _<_}
 use native.Mathlib.Nat.{mod-lt}
 use native.Mathlib.Omega.{arith}
 use lib.Dec.{eqb, lit≤}
+use Rattle.choice.specs.Bit.{bitAt}
 use Rattle.choice.specs.Pick.{pick, digit}
 use Rattle.choice.proofs.Digits.{digit-le}
 use Rattle.usart.specs.Sender.{isVacant}
 use Rattle.usart.specs.Queue.{heldIn, isEmpty, oldestOf, takenFrom}
 use Rattle.usart.specs.Read.{ucsr0a, ucsr0b, oldest}
 use Rattle.usart.specs.Event.{read}
-use Rattle.usart.specs.Receiving.{bitAt, seenBy, seenIn, takenBy}
+use Rattle.usart.specs.Receiving.{seenBy, seenIn, takenBy}
 use Rattle.usart.specs.declared.queue.Places.{Places}
 use Rattle.usart.specs.declared.queue.Places.the-variants.{Empty, One, Two}
 use Rattle.usart.specs.declared.unit.Usart.{Usart}

@@ -15,7 +15,7 @@ use Rattle.usart.specs.Receiver.{stopped}
 use Rattle.usart.specs.Sending.{takenAt, tickFrom, framesOf}
 use Rattle.usart.specs.declared.baud.Baud.{Baud}
 use Rattle.usart.specs.declared.sender.Buffer.the-variants.{Full}
-use Rattle.usart.specs.declared.sender.Shifter.the-variants.{Resting}
+use Rattle.usart.specs.declared.sender.ShiftRegister.the-variants.{Resting}
 
 module _ (b : Baud) where
   abbrev M : ℕ

@@ -15,7 +15,7 @@ use Rattle.frame.specs.Word.{dataOf}
 use Rattle.frame.specs.declared.format.Format.{Format}
 use Rattle.frame.proofs.FormatLaws.{samples-half, first-vote-range, word-bits-range, data-bits-range}
 use Rattle.frame.proofs.WordLaws.{word-lt}
-use Rattle.usart.specs.Baud.{ticks, leftOf, baudOf, loadedOf}
+use Rattle.usart.specs.Baud.{ticks, leftOf, baudOf, loadedBaud}
 use Rattle.usart.specs.Sender.{isVacant, isResting, bufferOf, acknowledgedOf, movedFrom, steppedOf, shiftedOn, senderOf}
 use Rattle.usart.specs.Sampler.{isReceiving, idleOf, castOf, nextBitOf, shiftedOf, decidedOf, votedOf, sampledOf, samplerOf}
 use Rattle.usart.specs.Queue.{storedIn, takenFrom}
@@ -23,7 +23,7 @@ use Rattle.usart.specs.Receiver.{frameOf, putOf, listenedOf, stopped, en
 use Rattle.usart.specs.Unit.{resetUsart, isBusy, clockOf, txcRequested}
 use Rattle.usart.specs.Settings.{codeOf, sizeOf, settingsOf}
 use Rattle.usart.specs.Read.{readOf}
-use Rattle.usart.specs.Write.{withSender, formattedOf, clearedOf, withU2x, writeA, controlled, withSize, codedB, writeB, isReservedC, formatIn, sizedC, codedC, writeC, timedOf, writeH, transmittedOf, writeOf, vectorOf}
+use Rattle.usart.specs.Write.{withSender, formattedOf, txcCleared, withU2x, writeA, controlled, withSize, codedB, writeB, isReservedC, formatIn, sizedC, codedC, writeC, timedOf, writeH, transmittedOf, writeOf, vectorOf}
 use Rattle.usart.specs.Event.{settled}
 use Rattle.usart.specs.Valid.{ValidBaud, ValidBuffer, ValidTransmission, ValidShifter, ValidSender, ValidReception, ValidSampler, ValidPlaces, ValidReceiver, Valid}
 use Rattle.usart.specs.declared.baud.Clocks.{Clocks}
@@ -32,8 +32,8 @@ use Rattle.usart.specs.declared.sample.Sample.{Sample}
 use Rattle.usart.specs.declared.sender.Buffer.{Buffer}
 use Rattle.usart.specs.declared.sender.Buffer.the-variants.{Vacant, Full}
 use Rattle.usart.specs.declared.sender.Transmission.{Transmission}
-use Rattle.usart.specs.declared.sender.Shifter.{Shifter}
-use Rattle.usart.specs.declared.sender.Shifter.the-variants.{Resting, Sending}
+use Rattle.usart.specs.declared.sender.ShiftRegister.{ShiftRegister}
+use Rattle.usart.specs.declared.sender.ShiftRegister.the-variants.{Resting, Sending}
 use Rattle.usart.specs.declared.sender.Sender.{Sender}
 use Rattle.usart.specs.declared.sampler.Reception.{Reception}
 use Rattle.usart.specs.declared.sampler.Sampler.{Sampler}
@@ -92,7 +92,7 @@ module _ (f : Format) where
   valid-sender : (s : Sender) → ValidSender f s → ValidSender f (senderOf f s)
   valid-sender s v = by (s .shifter) (v .shifter)
     where
-      by : (x : Shifter) → ValidShifter f x → ValidSender f (shiftedOn f s x)
+      by : (x : ShiftRegister) → ValidShifter f x → ValidSender f (shiftedOn f s x)
       by Resting vs = valid-moved (s .buffer) (s .txc) (s .txc)
       by (Sending t) vs = valid-stepped s t (v .buffer) vs
 
@@ -256,7 +256,7 @@ any-buffer : (f : Format) (b : Buffer) → isVacant b ≡ true → ValidBuffer f
 any-buffer f Vacant e = tt
 any-buffer f (Full d) e = absurd (let z : _≡_ {A = ℕ} 0 1 = cc in omega arith)
 
-any-shifter : (f : Format) (s : Shifter) → isResting s ≡ true → ValidShifter f s
+any-shifter : (f : Format) (s : ShiftRegister) → isResting s ≡ true → ValidShifter f s
 any-shifter f Resting e = tt
 any-shifter f (Sending t) e = absurd (let z : _≡_ {A = ℕ} 0 1 = cc in omega arith)
 
@@ -286,10 +286,10 @@ valid-acknowledged u v = record {
 }
 
 valid-a : (u : Usart) (x : ℕ) → Valid u → Valid (settled u (writeA u x))
-unfolding writeA clearedOf
+unfolding writeA txcCleared
 valid-a u x v =
     pick-ind (λ (w : Written). Valid (settled u w)) (eqb (x % 2) 1) _ _ (λ _. v)
-    (λ _. valid-formatted u (clearedOf u x) (isBusy u) (withU2x (u .format) (eqb (x / 2 % 2) 1)) v
+    (λ _. valid-formatted u (txcCleared u x) (isBusy u) (withU2x (u .format) (eqb (x / 2 % 2) 1)) v
     (pick-ind Valid (eqb (x / 64 % 2) 1) _ _ (λ _. valid-acknowledged u v) (λ _. v))
     (λ e. pick-ind Clear (eqb (x / 64 % 2) 1) _ _
     (λ _. record { vacant = not-busy u e .vacant; resting = not-busy u e .resting; idle = not-busy u e .idle }) (λ _. not-busy u e)))
@@ -375,7 +375,7 @@ valid-write u Ucsr0b x h v = valid-b u x v
 valid-write u Ucsr0c x h v = valid-c u x v
 valid-write u Ubrr0l x h v =
     let b : u .baud .ubrr / 256 * 256 + x < 4096 = omega (arith, v .baud .ubrr) in
-    valid-timed u (loadedOf (u .baud .ubrr / 256 * 256 + x)) v (record { ubrr = b; left = b })
+    valid-timed u (loadedBaud (u .baud .ubrr / 256 * 256 + x)) v (record { ubrr = b; left = b })
 valid-write u Ubrr0h x h v = valid-h u x v
 valid-write u Udr0 x h v = valid-d u x v
 

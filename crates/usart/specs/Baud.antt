@@ -27,5 +27,5 @@ abbrev pub clocksFor : Baud → ℕ → ℕ
 clocksFor b n = n * (b .ubrr + 1)
 
 -- UBRR0L: stores and loads the baud counter with all of UBRR
-abbrev pub loadedOf : ℕ → Baud
-loadedOf ubrr = record { ubrr = ubrr; left = record { 0 = ubrr } }
+abbrev pub loadedBaud : ℕ → Baud
+loadedBaud ubrr = record { ubrr = ubrr; left = record { 0 = ubrr } }

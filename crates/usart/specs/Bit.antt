@@ -12,7 +12,7 @@ use Rattle.frame.specs.declared.format.Format.{Format}
 use Rattle.usart.specs.Unit.{clockOf, outputOf}
 use Rattle.usart.specs.Event.{Event, finalOf, levelsOf}
 use Rattle.usart.specs.declared.sender.Buffer.the-variants.{Full}
-use Rattle.usart.specs.declared.sender.Shifter.the-variants.{Resting, Sending}
+use Rattle.usart.specs.declared.sender.ShiftRegister.the-variants.{Resting, Sending}
 use Rattle.usart.specs.declared.unit.Usart.{Usart}
 
 -- bit b of a frame of the word w is on the line: it is in the shifter, whatever number of its ticks has passed, and TxD
@@ -36,8 +36,10 @@ clocksIn es = length (levelsOf es)
 pub record Lasts (n : ℕ) (f : Format) (w b : ℕ) (u : Usart) : Type 0 where
   pub stays : (es : List Event) → clocksIn es < n → OnLine f w b (finalOf u es)
   pub ends : (es : List Event) (rxd : Bool) → clocksIn es + 1 ≡ n → OnLine f w b (clockOf (finalOf u es) rxd) → ⊥
-  pub next : (es : List Event) (rxd : Bool) → clocksIn es + 1 ≡ n → b < lastBit f → Begins f w (b + 1) (finalOf u es) rxd
-  pub start : (es : List Event) (rxd : Bool) (d : ℕ) → clocksIn es + 1 ≡ n → b ≡ lastBit f → finalOf u es .sender .buffer ≡ Full d
+  pub next : (es : List Event) (rxd : Bool) → clocksIn es + 1 ≡ n → b < lastBit f
+      → Begins f w (b + 1) (finalOf u es) rxd
+  pub start : (es : List Event) (rxd : Bool) (d : ℕ) → clocksIn es + 1 ≡ n → b ≡ lastBit f
+      → finalOf u es .sender .buffer ≡ Full d
       → Begins f (wordOf f d) 0 (finalOf u es) rxd
 
 -- a bit of the unit u is n clocks: a start bit begins at a tick that finds the shifter empty and the buffer full, and

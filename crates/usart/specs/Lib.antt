@@ -10,6 +10,7 @@ pub mod Write
 pub mod Valid
 pub mod Event
 pub mod Line
+pub mod Limit
 pub mod Receiving
 pub mod Sending
 pub mod Marked

@@ -1,4 +1,5 @@
--- The line of demand 3 (document 01, 'The line of demand 3'). D is data bits plus parity bit, the sender's bit is P/Q clocks long.
+-- The line of demand 3 (document 01, 'The line of demand 3'). D is data bits plus parity bit, the sender's bit is P/Q
+-- clocks long.
 use Prim.Native.Nat.{ℕ, suc, _+_, _-_, _*_, _/_, _^_, _≤_, _<_}
 use mathlib.Core.Bool.{Bool, true, false}
 use mathlib.Core.List.{List, [], _∷_}
@@ -22,7 +23,9 @@ covers D P Q s j = pick (leb (s .start) j) (ltb ((j - s .start) * Q) ((D + 2) * 
 unfoldable pub lineLevel : Format → ℕ → ℕ → List Sent → ℕ → Bool
 lineLevel f P Q [] j = true
 lineLevel f P Q (s ∷ ss) j =
-    pick (covers (wordBits f) P Q s j) (frameBit (wordBits f) (wordOf f (s .«data»)) ((j - s .start) * Q / P)) (lineLevel f P Q ss j)
+    pick (covers (wordBits f) P Q s j)
+    (frameBit (wordBits f) (wordOf f (s .«data»)) ((j - s .start) * Q / P))
+    (lineLevel f P Q ss j)
 
 -- each frame's data has the format's bits and no more
 abbrev pub Fits : Format → List Sent → Type 0

@@ -4,10 +4,10 @@ use Prim.Native.Nat.{ℕ, zero, suc}
 use mathlib.Core.Bool.{true}
 use mathlib.Core.List.{List, [], _∷_, _++_}
 use mathlib.Core.Path.{_≡_}
+use Rattle.choice.specs.Bit.{bitAt}
 use Rattle.usart.specs.Unit.{resetUsart, clockOf, outputOf}
 use Rattle.usart.specs.Read.{ucsr0a}
 use Rattle.usart.specs.Event.{write, finalOf}
-use Rattle.usart.specs.Receiving.{bitAt}
 use Rattle.usart.specs.declared.unit.Usart.{Usart}
 use Rattle.usart.specs.declared.write.Register.the-variants.{Ucsr0b, Udr0}
 

@@ -39,8 +39,8 @@ takenFrom Empty = Empty
 takenFrom (One a) = Empty
 takenFrom (Two a b) = One b
 
-abbrev pub takenOf : Queue → Queue
-takenOf q = record { places = takenFrom (q .places); lost = q .lost }
+abbrev pub withoutOldest : Queue → Queue
+withoutOldest q = record { places = takenFrom (q .places); lost = q .lost }
 
 -- empty: all read 0
 abbrev pub noFrame : Frame

@@ -2,9 +2,10 @@
 use Prim.Native.Nat.{ℕ, _+_, _*_, _/_, _%_}
 use mathlib.Core.Bool.{not}
 use lib.Dec.{eqb}
+use Rattle.choice.specs.Bit.{isSet}
 use Rattle.choice.specs.Pick.{digit}
 use Rattle.usart.specs.Sender.{isVacant}
-use Rattle.usart.specs.Queue.{isEmpty, oldestOf, takenOf}
+use Rattle.usart.specs.Queue.{isEmpty, oldestOf, withoutOldest}
 use Rattle.usart.specs.Settings.{codeOf, upmOf}
 use Rattle.usart.specs.declared.queue.Frame.{Frame}
 use Rattle.usart.specs.declared.unit.Usart.{Usart}
@@ -19,14 +20,25 @@ oldest u = oldestOf (u .receiver .queue .places)
 -- RXC, TXC, UDRE, FE, DOR, UPE, U2X, MPCM, of which MPCM is 0
 abbrev pub ucsr0a : Usart → ℕ
 ucsr0a u =
-    digit (not (isEmpty (u .receiver .queue .places))) * 128 + digit (u .sender .txc) * 64 + digit (isVacant (u .sender .buffer)) * 32
-    + digit (oldest u .fe) * 16 + digit (oldest u .dor) * 8 + digit (oldest u .upe) * 4 + digit (u .format .u2x) * 2
+    digit (not (isEmpty (u .receiver .queue .places))) * 128
+    + digit (u .sender .txc) * 64
+    + digit (isVacant (u .sender .buffer)) * 32
+    + digit (oldest u .fe) * 16
+    + digit (oldest u .dor) * 8
+    + digit (oldest u .upe) * 4
+    + digit (u .format .u2x) * 2
 
 -- RXCIE, TXCIE, UDRIE, RXEN, TXEN, UCSZ2, RXB8, TXB8
 abbrev pub ucsr0b : Usart → ℕ
 ucsr0b u =
-    digit (u .control .rxcie) * 128 + digit (u .control .txcie) * 64 + digit (u .control .udrie) * 32 + digit (u .control .rxen) * 16
-    + digit (u .control .txen) * 8 + codeOf (u .format .size) / 4 * 4 + digit (eqb (oldest u .«data» / 256 % 2) 1) * 2 + digit (u .control .txb8)
+    digit (u .control .rxcie) * 128
+    + digit (u .control .txcie) * 64
+    + digit (u .control .udrie) * 32
+    + digit (u .control .rxen) * 16
+    + digit (u .control .txen) * 8
+    + codeOf (u .format .size) / 4 * 4
+    + digit (isSet (oldest u .«data») 256) * 2
+    + digit (u .control .txb8)
 
 -- UMSEL (00), UPM, USBS, UCSZ1:0, UCPOL (0)
 abbrev pub ucsr0c : Usart → ℕ
@@ -48,7 +60,7 @@ poppedOf u = record {
   format = u .format;
   control = u .control;
   sender = u .sender;
-  receiver = record { sampler = u .receiver .sampler; queue = takenOf (u .receiver .queue) };
+  receiver = record { sampler = u .receiver .sampler; queue = withoutOldest (u .receiver .queue) };
 }
 
 -- only a read of UDR0 changes anything

@@ -26,13 +26,15 @@ putOf f q (Complete word stop) = storedOf q (frameOf f word stop)
 -- a tick
 abbrev pub receiverOf : Format → Receiver → Bool → Receiver
 receiverOf f r rxd =
-    let o : Sampled = samplerOf f (r .sampler) rxd in record { sampler = o .sampler; queue = putOf f (r .queue) (o .outcome) }
+    let o : Sampled = samplerOf f (r .sampler) rxd in
+    record { sampler = o .sampler; queue = putOf f (r .queue) (o .outcome) }
 
 -- only an enabled receiver samples
 unfoldable pub listenedOf : Bool → Format → Receiver → Bool → Receiver
 listenedOf rxen f r rxd = pick rxen (receiverOf f r rxd) r
 
--- enabling makes it idle and remembering low (house); a disabled receiver rests so too, with no frame and no pending loss
+-- enabling makes it idle and remembering low (house); a disabled receiver rests so too, with no frame and no pending
+-- loss
 abbrev pub stopped : Receiver
 stopped = record { sampler = Idle false; queue = record { places = Empty; lost = false } }
 

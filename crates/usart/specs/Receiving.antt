@@ -7,7 +7,7 @@ use lib.Dec.{eqb, ltb}
 use lib.ListN.{length}
 use Rattle.choice.specs.Pick.{pick, digit}
 use Rattle.frame.specs.Format.{wordBits}
-use Rattle.frame.specs.Limit.{limit, Within}
+use Rattle.usart.specs.Limit.{limit, Within}
 use Rattle.usart.specs.Baud.{ticks}
 use Rattle.usart.specs.Sampler.{samplerOf}
 use Rattle.usart.specs.Queue.{heldIn}

@@ -1,12 +1,13 @@
--- What a write of a serial register is refused for: for each number its condition, by itself (document 01, 'Numbers the rig sees' and
--- 'Registers and their writes'). The lowest place in the order 2, 3, 4 wins; a number's condition does not look at the others.
+-- What a write of a serial register is refused for: for each number its condition, by itself (document 01, 'Numbers the
+-- rig sees' and 'Registers and their writes'). The lowest place in the order 2, 3, 4 wins; a number's condition does
+-- not look at the others.
 use Prim.Native.Nat.{ℕ, _+_, _*_, _/_, _%_}
 use mathlib.Core.Bool.{Bool, true, false, not, _&&_, _||_}
 use lib.Dec.{eqb}
 use Rattle.answer.specs.Number.{numberOf}
 use Rattle.choice.specs.Pick.{digit}
 use Rattle.usart.specs.Unit.{isBusy}
-use Rattle.usart.specs.Settings.{codeOf, upmOf}
+use Rattle.usart.specs.Settings.{codeOf, sizeOf, isKnown, upmOf}
 use Rattle.usart.specs.declared.unit.Usart.{Usart}
 use Rattle.usart.specs.declared.write.Register.{Register}
 use Rattle.usart.specs.declared.write.Register.the-variants.{Ucsr0a, Ucsr0b, Ucsr0c, Ubrr0l, Ubrr0h, Udr0}
@@ -18,11 +19,11 @@ abbrev pub numberIn : Written → ℕ
 numberIn (Done u) = 0
 numberIn (Refused r) = numberOf r
 
--- 000, 001, 010, 011 or 111
-unfoldable pub isSize : ℕ → Bool
-isSize n = eqb n 0 || eqb n 1 || eqb n 2 || eqb n 3 || eqb n 7
+abbrev pub isSize : ℕ → Bool
+isSize n = isKnown (sizeOf n)
 
--- 2, reserved setting. B, C: the size code UCSZ2:0 after the write is none of these; C: UMSEL 10, UPM 01, UCPOL 1; UBRR0H: bits 7 to 4
+-- 2, reserved setting. B, C: the size code UCSZ2:0 after the write is of no size; C: UMSEL 10, UPM 01, UCPOL 1; UBRR0H:
+-- bits 7 to 4
 abbrev pub isReserved : Usart → Register → ℕ → Bool
 isReserved u Ucsr0a v = false
 isReserved u Ucsr0b v = not (isSize (v / 4 % 2 * 4 + codeOf (u .format .size) % 4))
@@ -53,7 +54,7 @@ changes u Ubrr0l v = true
 changes u Ubrr0h v = true
 changes u Udr0 v = false
 
--- 4: a setting changed while the transmitter has a frame in shift or buffer, or the receiver is between first low sample and stop
--- decision, judged on the state before the write
+-- 4: a setting changed while the transmitter has a frame in shift or buffer, or the receiver is between first low
+-- sample and stop decision, judged on the state before the write
 abbrev pub isUnderWay : Usart → Register → ℕ → Bool
 isUnderWay u r v = isBusy u && changes u r v

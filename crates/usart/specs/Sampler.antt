@@ -42,7 +42,8 @@ castOf f r n rxd =
 -- each following bit has S samples; the stop bit, D + 1, is not left this way
 unfoldable pub nextBitOf : Format → Reception → Reception
 nextBitOf f r =
-    pick (leb (r .bit) (wordBits f)) (record { bit = r .bit + 1; sample = record { 0 = 0 }; first = false; second = false; word = r .word })
+    pick (leb (r .bit) (wordBits f))
+    (record { bit = r .bit + 1; sample = record { 0 = 0 }; first = false; second = false; word = r .word })
     r
 
 abbrev pub withWord : Reception → ℕ → Reception
@@ -52,8 +53,8 @@ withWord r w = record { bit = r .bit; sample = r .sample; first = r .first; seco
 unfoldable pub shiftedOf : Format → Reception → Bool → Reception
 shiftedOf f r level = pick level (withWord r (r .word / 2 + 2 ^ (wordBits f - 1))) (withWord r (r .word / 2))
 
--- the last vote, by the sample rxd. A start bit voted high is dropped; the frame completes at the first stop bit's. Then, and after a
--- dropped start, the receiver is idle and remembers that last sample
+-- the last vote, by the sample rxd. A start bit voted high is dropped; the frame completes at the first stop bit's.
+-- Then, and after a dropped start, the receiver is idle and remembers that last sample
 unfoldable pub decidedOf : Format → Reception → Bool → Bool → Sampled
 decidedOf f r rxd level =
     pick (eqb (r .bit) 0) (pick level (still (Idle rxd)) (still (Receiving r)))

@@ -9,8 +9,8 @@ use Rattle.frame.specs.declared.format.Format.{Format}
 use Rattle.usart.specs.declared.sender.Buffer.{Buffer}
 use Rattle.usart.specs.declared.sender.Buffer.the-variants.{Vacant, Full}
 use Rattle.usart.specs.declared.sender.Transmission.{Transmission}
-use Rattle.usart.specs.declared.sender.Shifter.{Shifter}
-use Rattle.usart.specs.declared.sender.Shifter.the-variants.{Resting, Sending}
+use Rattle.usart.specs.declared.sender.ShiftRegister.{ShiftRegister}
+use Rattle.usart.specs.declared.sender.ShiftRegister.the-variants.{Resting, Sending}
 use Rattle.usart.specs.declared.sender.Sender.{Sender}
 
 -- UDRE
@@ -18,7 +18,7 @@ abbrev pub isVacant : Buffer → Bool
 isVacant Vacant = true
 isVacant (Full d) = false
 
-abbrev pub isResting : Shifter → Bool
+abbrev pub isResting : ShiftRegister → Bool
 isResting Resting = true
 isResting (Sending t) = false
 
@@ -34,7 +34,8 @@ filledOf s d = record { buffer = bufferOf (s .buffer) d; shifter = s .shifter; t
 abbrev pub begun : Format → ℕ → Transmission
 begun f d = record { word = wordOf f d; bit = 0; sample = record { 0 = 0 } }
 
--- a full buffer moves to the shifter, UDRE is set and the start bit begins; from an empty one the shifter is at rest with TXC as given
+-- a full buffer moves to the shifter, UDRE is set and the start bit begins; from an empty one the shifter is at rest
+-- with TXC as given
 abbrev pub movedFrom : Format → Buffer → Bool → Bool → Sender
 movedFrom f Vacant kept txc = record { buffer = Vacant; shifter = Resting; txc = txc }
 movedFrom f (Full d) kept txc = record { buffer = Vacant; shifter = Sending (begun f d); txc = kept }
@@ -57,7 +58,7 @@ steppedOf f s t =
     (movedOf f s true))
 
 -- a tick
-abbrev pub shiftedOn : Format → Sender → Shifter → Sender
+abbrev pub shiftedOn : Format → Sender → ShiftRegister → Sender
 shiftedOn f s Resting = movedOf f s (s .txc)
 shiftedOn f s (Sending t) = steppedOf f s t
 
@@ -65,7 +66,7 @@ abbrev pub senderOf : Format → Sender → Sender
 senderOf f s = shiftedOn f s (s .shifter)
 
 -- the level of TxD
-abbrev pub txdOf : Format → Shifter → Bool
+abbrev pub txdOf : Format → ShiftRegister → Bool
 txdOf f Resting = true
 txdOf f (Sending t) = frameBit (wordBits f) (t .word) (t .bit)
 

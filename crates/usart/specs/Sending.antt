@@ -16,7 +16,7 @@ use Rattle.usart.specs.Valid.{ValidBuffer}
 use Rattle.usart.specs.declared.baud.Baud.{Baud}
 use Rattle.usart.specs.declared.sender.Buffer.{Buffer}
 use Rattle.usart.specs.declared.sender.Buffer.the-variants.{Vacant, Full}
-use Rattle.usart.specs.declared.sender.Shifter.the-variants.{Resting}
+use Rattle.usart.specs.declared.sender.ShiftRegister.the-variants.{Resting}
 use Rattle.usart.specs.declared.unit.Usart.{Usart}
 
 -- enabled, nothing in shift at first; the buffer may hold a frame; any baud counter

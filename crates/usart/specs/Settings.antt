@@ -1,5 +1,7 @@
--- The format as the registers' bits give it (document 01, 'Registers and their writes'; bit places and size codes by source 004).
+-- The format as the registers' bits give it (document 01, 'Registers and their writes'; bit places and size codes by
+-- source 004).
 use Prim.Native.Nat.{ℕ, _+_, _*_}
+use mathlib.Core.Bool.{Bool, true, false}
 use lib.Dec.{eqb}
 use Rattle.choice.specs.Pick.{pick, digit}
 use Rattle.frame.specs.declared.format.Size.{Size}
@@ -20,12 +22,16 @@ codeOf Nine = 7
 
 unfoldable pub sizeOf : ℕ → Coded
 sizeOf n =
-    pick (eqb n 0) (Known Five)
-    (pick (eqb n 1) (Known Six)
-    (pick (eqb n 2) (Known Seven)
-    (pick (eqb n 3) (Known Eight)
-    (pick (eqb n 7) (Known Nine)
+    pick (eqb n (codeOf Five)) (Known Five)
+    (pick (eqb n (codeOf Six)) (Known Six)
+    (pick (eqb n (codeOf Seven)) (Known Seven)
+    (pick (eqb n (codeOf Eight)) (Known Eight)
+    (pick (eqb n (codeOf Nine)) (Known Nine)
     Reserved))))
+
+abbrev pub isKnown : Coded → Bool
+isKnown (Known z) = true
+isKnown Reserved = false
 
 -- UPM 00 is off, 10 even, 11 odd; 01 is refused
 abbrev pub upmOf : Parity → ℕ
@@ -34,7 +40,7 @@ upmOf Even = 2
 upmOf Odd = 3
 
 unfoldable pub parityOf : ℕ → Parity
-parityOf n = pick (eqb n 2) Even (pick (eqb n 3) Odd Off)
+parityOf n = pick (eqb n (upmOf Even)) Even (pick (eqb n (upmOf Odd)) Odd Off)
 
 -- UPM, USBS, the size bits and U2X as one number: two formats that differ give two numbers
 abbrev pub settingsOf : Format → ℕ

@@ -11,7 +11,7 @@ use Rattle.usart.specs.Sampler.{isReceiving}
 use Rattle.usart.specs.Queue.{isEmpty}
 use Rattle.usart.specs.Receiver.{listenedOf, stopped}
 use Rattle.usart.specs.declared.sender.Buffer.the-variants.{Vacant}
-use Rattle.usart.specs.declared.sender.Shifter.the-variants.{Resting}
+use Rattle.usart.specs.declared.sender.ShiftRegister.the-variants.{Resting}
 use Rattle.usart.specs.declared.unit.Usart.{Usart}
 
 -- after reset: 8 data bits, no parity, 1 stop bit (UCSR0C 0x06), UDRE (UCSR0A 0x20), the rest 0
@@ -26,7 +26,10 @@ resetUsart = record {
 
 -- the transmitter has a frame in shift or buffer, or the receiver is between first low sample and stop decision
 unfoldable pub isBusy : Usart → Bool
-isBusy u = pick (isVacant (u .sender .buffer)) (pick (isResting (u .sender .shifter)) (isReceiving (u .receiver .sampler)) true) true
+isBusy u =
+    pick (isVacant (u .sender .buffer))
+    (pick (isResting (u .sender .shifter)) (isReceiving (u .receiver .sampler)) true)
+    true
 
 abbrev pub tickedOf : Usart → Bool → Usart
 tickedOf u rxd = record {
@@ -41,7 +44,13 @@ tickedOf u rxd = record {
 unfoldable pub clockOf : Usart → Bool → Usart
 clockOf u rxd =
     pick (ticks (u .baud)) (tickedOf u rxd)
-    (record { baud = baudOf (u .baud); format = u .format; control = u .control; sender = u .sender; receiver = u .receiver })
+    (record {
+      baud = baudOf (u .baud);
+      format = u .format;
+      control = u .control;
+      sender = u .sender;
+      receiver = u .receiver;
+    })
 
 -- a bit lasts S ticks, which are UBRR + 1 clocks apart
 abbrev pub bitClocks : Usart → ℕ
@@ -49,7 +58,8 @@ bitClocks u = samples (u .format) * (u .baud .ubrr + 1)
 
 -- TxD is driven with TXEN or frames left
 unfoldable pub isDriven : Usart → Bool
-isDriven u = pick (u .control .txen) true (pick (isVacant (u .sender .buffer)) (not (isResting (u .sender .shifter))) true)
+isDriven u =
+    pick (u .control .txen) true (pick (isVacant (u .sender .buffer)) (not (isResting (u .sender .shifter))) true)
 
 -- TxD in bit 0, its driven mark in bit 4; undriven shows 0
 unfoldable pub outputOf : Usart → ℕ

@@ -1,5 +1,5 @@
--- The ranges of the unit's fields. Frames held for reading outlive a change of format, so their range is not bound by the present one;
--- what the sender holds and a frame under way in the receiver are.
+-- The ranges of the unit's fields. Frames held for reading outlive a change of format, so their range is not bound by
+-- the present one; what the sender holds and a frame under way in the receiver are.
 use Prim.Native.Nat.{_+_, _^_, _<_, _≤_}
 use mathlib.Core.Bool.{false}
 use mathlib.Core.Path.{_≡_}
@@ -10,8 +10,8 @@ use Rattle.usart.specs.declared.baud.Baud.{Baud}
 use Rattle.usart.specs.declared.sender.Buffer.{Buffer}
 use Rattle.usart.specs.declared.sender.Buffer.the-variants.{Vacant, Full}
 use Rattle.usart.specs.declared.sender.Transmission.{Transmission}
-use Rattle.usart.specs.declared.sender.Shifter.{Shifter}
-use Rattle.usart.specs.declared.sender.Shifter.the-variants.{Resting, Sending}
+use Rattle.usart.specs.declared.sender.ShiftRegister.{ShiftRegister}
+use Rattle.usart.specs.declared.sender.ShiftRegister.the-variants.{Resting, Sending}
 use Rattle.usart.specs.declared.sender.Sender.{Sender}
 use Rattle.usart.specs.declared.sampler.Reception.{Reception}
 use Rattle.usart.specs.declared.sampler.Sampler.{Sampler}
@@ -36,7 +36,7 @@ pub record ValidTransmission (f : Format) (t : Transmission) : Type 0 where
   pub bit : t .bit ≤ lastBit f
   pub sample : t .sample .0 < samples f
 
-abbrev pub ValidShifter : Format → Shifter → Type 0
+abbrev pub ValidShifter : Format → ShiftRegister → Type 0
 ValidShifter f Resting = Unit {0}
 ValidShifter f (Sending t) = ValidTransmission f t
 

@@ -3,11 +3,12 @@ use Prim.Native.Nat.{ℕ, _+_, _*_, _/_, _%_}
 use mathlib.Core.Bool.{Bool, true}
 use lib.Dec.{eqb, leb}
 use Rattle.answer.specs.declared.Refusal.the-variants.{Reserved, Unmodelled, UnderWay, Unrequested}
+use Rattle.choice.specs.Bit.{isSet}
 use Rattle.choice.specs.Pick.{pick, digit}
 use Rattle.frame.specs.Word.{dataOf}
 use Rattle.frame.specs.declared.format.Size.{Size}
 use Rattle.frame.specs.declared.format.Format.{Format}
-use Rattle.usart.specs.Baud.{loadedOf}
+use Rattle.usart.specs.Baud.{loadedBaud}
 use Rattle.usart.specs.Sender.{filledOf, acknowledgedOf}
 use Rattle.usart.specs.Receiver.{enabledOf}
 use Rattle.usart.specs.Unit.{isBusy, txcRequested}
@@ -38,8 +39,8 @@ formattedOf u busy f =
     pick busy (pick (eqb (settingsOf f) (settingsOf (u .format))) (Done u) (Refused UnderWay)) (Done (withFormat u f))
 
 -- A: writing 1 to bit 6 clears TXC
-unfoldable pub clearedOf : Usart → ℕ → Usart
-clearedOf u v = pick (eqb (v / 64 % 2) 1) (withSender u (acknowledgedOf (u .sender))) u
+unfoldable pub txcCleared : Usart → ℕ → Usart
+txcCleared u v = pick (isSet v 64) (withSender u (acknowledgedOf (u .sender))) u
 
 abbrev pub withU2x : Format → Bool → Format
 withU2x f b = record { size = f .size; parity = f .parity; usbs = f .usbs; u2x = b }
@@ -47,15 +48,16 @@ withU2x f b = record { size = f .size; parity = f .parity; usbs = f .usbs; u2x =
 -- A: MPCM 1 is answer 3; U2X is bit 1
 unfoldable pub writeA : Usart → ℕ → Written
 writeA u v =
-    pick (eqb (v % 2) 1) (Refused Unmodelled) (formattedOf (clearedOf u v) (isBusy u) (withU2x (u .format) (eqb (v / 2 % 2) 1)))
+    pick (eqb (v % 2) 1) (Refused Unmodelled)
+    (formattedOf (txcCleared u v) (isBusy u) (withU2x (u .format) (isSet v 2)))
 
 abbrev pub controlIn : ℕ → Control
 controlIn v = record {
-  rxcie = eqb (v / 128 % 2) 1;
-  txcie = eqb (v / 64 % 2) 1;
-  udrie = eqb (v / 32 % 2) 1;
-  rxen = eqb (v / 16 % 2) 1;
-  txen = eqb (v / 8 % 2) 1;
+  rxcie = isSet v 128;
+  txcie = isSet v 64;
+  udrie = isSet v 32;
+  rxen = isSet v 16;
+  txen = isSet v 8;
   txb8 = eqb (v % 2) 1;
 }
 
@@ -66,7 +68,7 @@ controlled u v = record {
   format = u .format;
   control = controlIn v;
   sender = u .sender;
-  receiver = enabledOf (u .control .rxen) (eqb (v / 16 % 2) 1) (u .receiver);
+  receiver = enabledOf (u .control .rxen) (controlIn v .rxen) (u .receiver);
 }
 
 abbrev pub withSize : Format → Size → Format
@@ -89,7 +91,7 @@ unfoldable pub isReservedC : ℕ → Bool
 isReservedC v = pick (eqb (v / 64) 2) true (pick (eqb (v / 16 % 4) 1) true (eqb (v % 2) 1))
 
 abbrev pub formatIn : Usart → Size → ℕ → Format
-formatIn u z v = record { size = z; parity = parityOf (v / 16 % 4); usbs = eqb (v / 8 % 2) 1; u2x = u .format .u2x }
+formatIn u z v = record { size = z; parity = parityOf (v / 16 % 4); usbs = isSet v 8; u2x = u .format .u2x }
 
 -- C: UMSEL 01 and 11 are 3
 unfoldable pub sizedC : Usart → Size → ℕ → Written
@@ -101,7 +103,8 @@ codedC u v ReservedCode = Refused Reserved
 
 -- C: UPM is bits 5 and 4, USBS bit 3, UCSZ1:0 bits 2 and 1
 unfoldable pub writeC : Usart → ℕ → Written
-writeC u v = pick (isReservedC v) (Refused Reserved) (codedC u v (sizeOf (codeOf (u .format .size) / 4 * 4 + v / 2 % 4)))
+writeC u v =
+    pick (isReservedC v) (Refused Reserved) (codedC u v (sizeOf (codeOf (u .format .size) / 4 * 4 + v / 2 % 4)))
 
 -- 4 is given for any write to UBRR0L or H while busy
 unfoldable pub timedOf : Usart → Baud → Written
@@ -109,17 +112,20 @@ timedOf u b = pick (isBusy u) (Refused UnderWay) (Done (withBaud u b))
 
 -- UBRR0L: stores and loads the baud counter with all of UBRR
 abbrev pub writeL : Usart → ℕ → Written
-writeL u v = timedOf u (loadedOf (u .baud .ubrr / 256 * 256 + v))
+writeL u v = timedOf u (loadedBaud (u .baud .ubrr / 256 * 256 + v))
 
 -- UBRR0H: bits 7 to 4 set is 2
 unfoldable pub writeH : Usart → ℕ → Written
 writeH u v =
-    pick (leb 16 v) (Refused Reserved) (timedOf u (record { ubrr = v * 256 + u .baud .ubrr % 256; left = u .baud .left }))
+    pick (leb 16 v) (Refused Reserved)
+    (timedOf u (record { ubrr = v * 256 + u .baud .ubrr % 256; left = u .baud .left }))
 
 -- a write to UDR0 with TXEN and UDRE set fills the buffer, with TXB8 as it then stands; any other is done and ignored
 unfoldable pub transmittedOf : Usart → ℕ → Usart
 transmittedOf u v =
-    pick (u .control .txen) (withSender u (filledOf (u .sender) (dataOf (u .format) (digit (u .control .txb8) * 256 + v)))) u
+    pick (u .control .txen)
+    (withSender u (filledOf (u .sender) (dataOf (u .format) (digit (u .control .txb8) * 256 + v))))
+    u
 
 abbrev pub writeOf : Usart → Register → ℕ → Written
 writeOf u Ucsr0a v = writeA u v

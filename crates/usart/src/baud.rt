@@ -1,7 +1,7 @@
 use crate::tick::Ticks;
 use span::Span;
 ghost use mathlib.Core.Path.{_≡_};
-ghost use Rattle.usart.specs.Baud.{leftOf, ticks, baudOf, ticksIn, clocksFor, loadedOf};
+ghost use Rattle.usart.specs.Baud.{leftOf, ticks, baudOf, ticksIn, clocksFor, loadedBaud};
 
 // Clocks left in the baud counter until the next tick.
 pub struct Clocks(pub u16);
@@ -43,7 +43,7 @@ impl Baud {
 
     // UBRR written whole, and loaded.
     pub fn loaded(ubrr: u16) -> Baud
-        ensures { λ r. ⌜ r ≡ loadedOf ubrr ⌝ }
+        ensures { λ r. ⌜ r ≡ loadedBaud ubrr ⌝ }
     {
         Baud {
             ubrr: ubrr,

@@ -1,5 +1,6 @@
-// Clocks that only count, many at once. Sender and receiver go by ticks, the baud counter by clocks. The `counted` functions require that n
-// is at most what `quiet` says, so that no count runs over; the format that they take stands in that alone.
+// Clocks that only count, many at once. Sender and receiver go by ticks, the baud counter by clocks. The `counted`
+// functions require that n is at most what `quiet` says, so that no count runs over; the format that they take stands
+// in that alone.
 use crate::baud::Baud;
 use crate::baud::Clocks;
 use crate::receiver::Receiver;
@@ -7,7 +8,7 @@ use crate::sample::Sample;
 use crate::sampler::Reception;
 use crate::sampler::Sampler;
 use crate::sender::Sender;
-use crate::sender::Shifter;
+use crate::sender::ShiftRegister;
 use crate::sender::Transmission;
 use crate::tick::Ticks;
 use crate::unit::Usart;
@@ -15,7 +16,9 @@ use frame::Format;
 use span::Span;
 ghost use mathlib.Core.Path.{_≡_};
 ghost use Prim.Native.Nat.{_-_, _≤_};
-ghost use Rattle.usart.specs.Counting.{least, senderQuiet, bitQuiet, samplerQuiet, receiverQuiet, quietOf, later, countedSender, countedSampler, countedReceiver, countedBaud, countedOf, skippedOf};
+ghost use Rattle.usart.specs.Counting.{least, senderQuiet, bitQuiet, samplerQuiet, receiverQuiet, quietOf};
+ghost use Rattle.usart.specs.Counting.{later, countedSender, countedSampler, countedReceiver, countedBaud};
+ghost use Rattle.usart.specs.Counting.{countedOf, skippedOf};
 
 // A part at rest sets no end to the ticks that only count.
 const UNLIMITED: Ticks = Ticks(65535);
@@ -83,8 +86,8 @@ impl Sender {
     {
         let s = self.shifter;
         match s {
-            Shifter::Resting => { if self.vacant() { UNLIMITED } else { Ticks(0) } }
-            Shifter::Sending(t) => t.sample.until(f.samples() - 1),
+            ShiftRegister::Resting => { if self.vacant() { UNLIMITED } else { Ticks(0) } }
+            ShiftRegister::Sending(t) => t.sample.until(f.samples() - 1),
         }
     }
 
@@ -95,8 +98,8 @@ impl Sender {
         let b = self.buffer;
         let s = self.shifter;
         match s {
-            Shifter::Resting => self,
-            Shifter::Sending(t) => {
+            ShiftRegister::Resting => self,
+            ShiftRegister::Sending(t) => {
                 let x = Transmission {
                     word: t.word,
                     bit: t.bit,
@@ -104,7 +107,7 @@ impl Sender {
                 };
                 Sender {
                     buffer: b,
-                    shifter: Shifter::Sending(x),
+                    shifter: ShiftRegister::Sending(x),
                     txc: self.txc,
                 }
             }

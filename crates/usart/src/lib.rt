@@ -1,7 +1,8 @@
-// USART0 in asynchronous mode: baud clock, sender, sampler, receive queue and serial registers. It knows nothing of the SPI or of the
-// record's bytes.
+// USART0 in asynchronous mode: baud clock, sender, sampler, receive queue and serial registers, and the line with its
+// recommended rate limits. It knows nothing of the SPI or of the record's bytes.
 mod baud;
 mod count;
+mod limit;
 mod queue;
 mod read;
 mod receiver;
@@ -16,6 +17,7 @@ mod write;
 pub use baud::Baud;
 pub use baud::Clocks;
 pub use count::Skipped;
+pub use limit::rate_limit;
 pub use queue::Frame;
 pub use queue::Places;
 pub use queue::Queue;
@@ -28,7 +30,7 @@ pub use sampler::Sampled;
 pub use sampler::Sampler;
 pub use sender::Buffer;
 pub use sender::Sender;
-pub use sender::Shifter;
+pub use sender::ShiftRegister;
 pub use sender::Transmission;
 pub use settings::Coded;
 pub use settings::parity_of;

@@ -1,5 +1,5 @@
 ghost use mathlib.Core.Path.{_≡_};
-ghost use Rattle.usart.specs.Queue.{markedOf, holding, storedOf, takenOf, oldestOf, isEmpty};
+ghost use Rattle.usart.specs.Queue.{markedOf, holding, storedOf, withoutOldest, oldestOf, isEmpty};
 
 // A received frame.
 pub struct Frame {
@@ -70,7 +70,7 @@ impl Queue {
 
     // The oldest frame is taken away, if there is one.
     pub fn taken(self) -> Queue
-        ensures { λ r. ⌜ r ≡ takenOf self ⌝ }
+        ensures { λ r. ⌜ r ≡ withoutOldest self ⌝ }
     {
         let p = self.places;
         match p {

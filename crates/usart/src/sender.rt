@@ -1,7 +1,8 @@
 use crate::sample::Sample;
 use frame::Format;
 ghost use mathlib.Core.Path.{_≡_};
-ghost use Rattle.usart.specs.Sender.{isVacant, isResting, movedOf, atOf, senderOf, txdOf, filledOf, acknowledgedOf};
+ghost use Rattle.usart.specs.Sender.{isVacant, isResting, movedOf, atOf, senderOf, txdOf, filledOf};
+ghost use Rattle.usart.specs.Sender.{acknowledgedOf};
 
 // The transmit buffer.
 pub enum Buffer {
@@ -11,21 +12,22 @@ pub enum Buffer {
     Full(u16),
 }
 
-// A frame in the shifter: its word, the bit that is on the line (0 is the start bit) and the ticks of it that have passed.
+// A frame in the shifter: its word, the bit that is on the line (0 is the start bit) and the ticks of it that have
+// passed.
 pub struct Transmission {
     pub word: u16,
     pub bit: u8,
     pub sample: Sample,
 }
 
-pub enum Shifter {
+pub enum ShiftRegister {
     Resting,
     Sending(Transmission),
 }
 
 pub struct Sender {
     pub buffer: Buffer,
-    pub shifter: Shifter,
+    pub shifter: ShiftRegister,
     pub txc: bool,
 }
 
@@ -45,8 +47,8 @@ impl Sender {
     {
         let s = self.shifter;
         match s {
-            Shifter::Resting => true,
-            Shifter::Sending(_) => false,
+            ShiftRegister::Resting => true,
+            ShiftRegister::Sending(_) => false,
         }
     }
 
@@ -58,7 +60,7 @@ impl Sender {
         match b {
             Buffer::Vacant => Sender {
                 buffer: Buffer::Vacant,
-                shifter: Shifter::Resting,
+                shifter: ShiftRegister::Resting,
                 txc: txc,
             },
             Buffer::Full(d) => {
@@ -69,7 +71,7 @@ impl Sender {
                 };
                 Sender {
                     buffer: Buffer::Vacant,
-                    shifter: Shifter::Sending(t),
+                    shifter: ShiftRegister::Sending(t),
                     txc: self.txc,
                 }
             }
@@ -82,20 +84,21 @@ impl Sender {
         let b = self.buffer;
         Sender {
             buffer: b,
-            shifter: Shifter::Sending(t),
+            shifter: ShiftRegister::Sending(t),
             txc: self.txc,
         }
     }
 
-    // A shifter at rest and a frame's end share one call of `moved`: called from one place it is inlined, which a run's speed rests on.
+    // A shifter at rest and a frame's end share one call of `moved`: called from one place it is inlined, which a run's
+    // speed rests on.
     pub fn tick(self, f: Format) -> Sender
         ensures { λ r. ⌜ r ≡ senderOf f self ⌝ }
     {
         let s = self.shifter;
         let mut txc = self.txc;
         match s {
-            Shifter::Resting => {}
-            Shifter::Sending(t) => {
+            ShiftRegister::Resting => {}
+            ShiftRegister::Sending(t) => {
                 if t.sample.0 < f.samples() - 1 {
                     return self.at(Transmission {
                         word: t.word,
@@ -122,8 +125,8 @@ impl Sender {
     {
         let s = self.shifter;
         match s {
-            Shifter::Resting => true,
-            Shifter::Sending(t) => f.bit_level(t.word, t.bit),
+            ShiftRegister::Resting => true,
+            ShiftRegister::Sending(t) => f.bit_level(t.word, t.bit),
         }
     }
 

@@ -3,13 +3,14 @@ use crate::baud::Clocks;
 use crate::receiver::Receiver;
 use crate::sender::Buffer;
 use crate::sender::Sender;
-use crate::sender::Shifter;
+use crate::sender::ShiftRegister;
 use choice::digit;
 use frame::Format;
 use frame::Parity;
 use frame::Size;
 ghost use mathlib.Core.Path.{_≡_};
-ghost use Rattle.usart.specs.Unit.{resetUsart, isBusy, tickedOf, clockOf, isDriven, outputOf, requestsOf, rxcRequested, udreRequested, txcRequested};
+ghost use Rattle.usart.specs.Unit.{resetUsart, isBusy, tickedOf, clockOf, isDriven, outputOf};
+ghost use Rattle.usart.specs.Unit.{requestsOf, rxcRequested, udreRequested, txcRequested};
 
 // UCSR0B, but for the bits that are kept elsewhere: UCSZ2 in the format, RXB8 with the oldest frame.
 pub struct Control {
@@ -49,7 +50,7 @@ impl Usart {
         };
         let s = Sender {
             buffer: Buffer::Vacant,
-            shifter: Shifter::Resting,
+            shifter: ShiftRegister::Resting,
             txc: false,
         };
         Usart {

@@ -12,7 +12,9 @@ use choice::digit;
 use frame::Format;
 use frame::Size;
 ghost use mathlib.Core.Path.{_≡_};
-ghost use Rattle.usart.specs.Write.{withSender, withFormat, withBaud, clearedOf, formattedOf, writeA, controlled, sizedB, writeB, isReservedC, sizedC, writeC, timedOf, writeL, writeH, transmittedOf, writeOf, vectorOf};
+ghost use Rattle.usart.specs.Write.{withSender, withFormat, withBaud, txcCleared, formattedOf, writeA};
+ghost use Rattle.usart.specs.Write.{controlled, sizedB, writeB, isReservedC, sizedC, writeC, timedOf, writeL};
+ghost use Rattle.usart.specs.Write.{writeH, transmittedOf, writeOf, vectorOf};
 
 pub enum Register {
     Ucsr0a,
@@ -93,7 +95,7 @@ impl Usart {
 
     // Bit 6 of a write to UCSR0A clears TXC.
     fn cleared(self, v: u8) -> Usart
-        ensures { λ r. ⌜ r ≡ clearedOf self v ⌝ }
+        ensures { λ r. ⌜ r ≡ txcCleared self v ⌝ }
     {
         if v / 64 % 2 == 1 {
             return self.with_sender(self.sender.acknowledged());

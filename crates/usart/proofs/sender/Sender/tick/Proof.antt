@@ -9,7 +9,7 @@ use Rattle.frame.specs.Format.{samples, lastBit}
 use Rattle.frame.specs.declared.format.Format.{Format}
 use Rattle.usart.specs.Sender.{movedOf, steppedOf, shiftedOn, senderOf}
 use Rattle.usart.specs.declared.sender.Transmission.{Transmission}
-use Rattle.usart.specs.declared.sender.Shifter.the-variants.{Resting, Sending}
+use Rattle.usart.specs.declared.sender.ShiftRegister.the-variants.{Resting, Sending}
 use Rattle.usart.specs.declared.sender.Sender.{Sender}
 use borrow.Author.Needs.{needs}
 use Rattle.usart.proofs.sender.Sender.tick.Statement.{statement}

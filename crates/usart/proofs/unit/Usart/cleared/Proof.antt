@@ -1,4 +1,4 @@
-use Rattle.usart.specs.Write.{clearedOf}
+use Rattle.usart.specs.Write.{txcCleared}
 use mathlib.Core.Path.{refl}
 use borrow.Author.Tests.{eq-eqb, ne-eqb}
 use Rattle.choice.proofs.Picks.{pick-true, pick-false}
@@ -13,11 +13,11 @@ with-sender-requires : tie.Need-with-sender-requires
 with-sender-requires c κs = search needs
 
 returns : tie.Need-returns
-unfolding clearedOf
+unfolding txcCleared
 returns c = pick-true _ _ _ _ (eq-eqb _ _ (c .before .before .if1 .taken)) (rw (c .with-sender .ensures, c .before .acknowledged .ensures))
 
 returns-2 : tie.Need-returns-2
-unfolding clearedOf
+unfolding txcCleared
 returns-2 c = pick-false _ _ _ _ (ne-eqb _ _ (c .if1 .left)) refl
 
 pub cleared-spec : {M : Type 1} → statement M

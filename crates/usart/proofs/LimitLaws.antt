@@ -9,7 +9,7 @@ use lib.ListN.{getD, length}
 use borrow.Author.Tests.{leb-true}
 use Rattle.choice.specs.Pick.{pick}
 use Rattle.choice.proofs.Picks.{both}
-use Rattle.frame.specs.Limit.{limits, limit}
+use Rattle.usart.specs.Limit.{rateLimits, limit}
 
 -- the test of a table whose first entry is for D
 abbrev small : ℕ → List ℕ → Bool
@@ -26,5 +26,5 @@ pub limit-small : (u2x : Bool) (D : ℕ) → 5 ≤ D → D ≤ 10 → (D + 1) * 
 limit-small u2x D lo hi = subst (λ (d : ℕ). (d + 1) * limit u2x D ≤ 180) (omega arith) (by u2x)
   where
     by : (t : Bool) → (5 + (D - 5) + 1) * limit t D ≤ 180
-    by true = entry 5 (limits true) (D - 5) refl (omega arith)
-    by false = entry 5 (limits false) (D - 5) refl (omega arith)
+    by true = entry 5 (rateLimits true) (D - 5) refl (omega arith)
+    by false = entry 5 (rateLimits false) (D - 5) refl (omega arith)

@@ -1,6 +1,6 @@
 use borrow.Author.Needs.{needs}
-use Rattle.frame.proofs.format.Format.limit.Statement.{statement}
-use Rattle.frame.proofs.format.Format.limit.Tie as tie
+use Rattle.usart.proofs.limit.rate_limit.Statement.{statement}
+use Rattle.usart.proofs.limit.rate_limit.Tie as tie
 
 word-bits-requires : tie.Need-word-bits-requires
 word-bits-requires c κs = search needs
@@ -23,8 +23,8 @@ returns c = rw (c .if1 .taken, c .before .word-bits .ensures .0)
 returns-2 : tie.Need-returns-2
 returns-2 c = rw (c .if1 .left, c .before .word-bits .ensures .0)
 
-pub limit-spec : {M : Type 1} → statement M
-limit-spec =
+pub rate-limit-spec : {M : Type 1} → statement M
+rate-limit-spec =
     tie.close
     (tie.spec
     word-bits-requires
