@@ -53,10 +53,10 @@ pub every-tick : (ubrr : ℕ) {n k : ℕ} → ubrr ≡ 0 → n ≡ k * (ubrr + 1
 every-tick ubrr z e = e ∙ rw z (omega arith)
 
 -- the unit with other parts
-abbrev with : Usart → Baud → Sender → Receiver → Usart
+abbrev pub with : Usart → Baud → Sender → Receiver → Usart
 with u b s r = record { baud = b; format = u .format; control = u .control; sender = s; receiver = r }
 
-same-parts : (u : Usart) {a b : Baud} {s t : Sender} {q r : Receiver} → a ≡ b → s ≡ t → q ≡ r → with u a s q ≡ with u b t r
+pub same-parts : (u : Usart) {a b : Baud} {s t : Sender} {q r : Receiver} → a ≡ b → s ≡ t → q ≡ r → with u a s q ≡ with u b t r
 same-parts u p q r = cc
 
 module _ (f : Format) where
@@ -66,7 +66,7 @@ module _ (f : Format) where
   sending-fits b s t n e h =
       let g : n ≤ senderQuiet f b (Sending t) = rw e at h in omega (arith, samples-half f, first-vote-range f)
 
-  sender-clock : (s : Sender) → 1 ≤ senderQuiet f (s .buffer) (s .shifter) → senderOf f s ≡ countedSender s 1
+  pub sender-clock : (s : Sender) → 1 ≤ senderQuiet f (s .buffer) (s .shifter) → senderOf f s ≡ countedSender s 1
   unfolding senderQuiet steppedOf
   sender-clock s h = by (s .buffer) (s .shifter) (s .txc) h
     where
@@ -76,7 +76,7 @@ module _ (f : Format) where
       by (Full d) Resting c h = absurd (omega arith)
       by b (Sending t) c h = rw (lt-ltb (t .sample .0) (samples f - 1) (omega arith))
 
-  sender-after : (b : Buffer) (s : ShiftRegister) (k : ℕ) → suc k ≤ senderQuiet f b s → k ≤ senderQuiet f b (countedShifter s 1)
+  pub sender-after : (b : Buffer) (s : ShiftRegister) (k : ℕ) → suc k ≤ senderQuiet f b s → k ≤ senderQuiet f b (countedShifter s 1)
   unfolding senderQuiet
   sender-after b Resting k h = omega arith
   sender-after b (Sending t) k h = omega arith
@@ -147,14 +147,14 @@ module _ (f : Format) where
   unfolding receiverQuiet
   enabled-quiet rxen r n e h = rw e at h
 
-  receiver-clock : (rxen : Bool) (r : Receiver) (l : Bool) → 1 ≤ receiverQuiet rxen f r → listenedOf rxen f r l ≡ countedReceiver rxen r 1
+  pub receiver-clock : (rxen : Bool) (r : Receiver) (l : Bool) → 1 ≤ receiverQuiet rxen f r → listenedOf rxen f r l ≡ countedReceiver rxen r 1
   unfolding receiverQuiet listenedOf countedReceiver
   receiver-clock true r l h =
       let next : Sampled → Receiver = λ o. record { sampler = o .sampler; queue = putOf f (r .queue) (o .outcome) } in
       ap next (sampler-clock (r .sampler) l h)
   receiver-clock false r l h = refl
 
-  receiver-after : (rxen : Bool) (r : Receiver) (k : ℕ) → suc k ≤ receiverQuiet rxen f r → k ≤ receiverQuiet rxen f (countedReceiver rxen r 1)
+  pub receiver-after : (rxen : Bool) (r : Receiver) (k : ℕ) → suc k ≤ receiverQuiet rxen f r → k ≤ receiverQuiet rxen f (countedReceiver rxen r 1)
   unfolding receiverQuiet countedReceiver
   receiver-after true r k h = sampler-after (r .sampler) k h
   receiver-after false r k h = omega arith
@@ -238,7 +238,7 @@ quiet-after u k h = split (ticks (u .baud))
     (λ e. rw (counted-tick u 1 e) (ticked-after u k e (ticking u (suc k) e h)))
     (λ e. rw (counted-wait u 1 e) (waited-after u k (waiting u (suc k) e h)))
 
-shifter-none : (s : ShiftRegister) → countedShifter s 0 ≡ s
+pub shifter-none : (s : ShiftRegister) → countedShifter s 0 ≡ s
 shifter-none Resting = refl
 shifter-none (Sending t) =
     let e : t .sample .0 + 0 ≡ t .sample .0 = omega arith in rw e
@@ -248,7 +248,7 @@ sampler-none (Idle last) = refl
 sampler-none (Receiving r) =
     let e : r .sample .0 + 0 ≡ r .sample .0 = omega arith in rw e
 
-receiver-none : (rxen : Bool) (r : Receiver) → countedReceiver rxen r 0 ≡ r
+pub receiver-none : (rxen : Bool) (r : Receiver) → countedReceiver rxen r 0 ≡ r
 unfolding countedReceiver
 receiver-none true r = rw (sampler-none (r .sampler))
 receiver-none false r = refl
@@ -260,7 +260,7 @@ counted-none u = split (ticks (u .baud))
     let none : u .baud .left .0 - 0 ≡ u .baud .left .0 = omega arith in
     rw (counted-wait u 0 e, none))
 
-shifter-more : (s : ShiftRegister) (k : ℕ) → countedShifter (countedShifter s 1) k ≡ countedShifter s (suc k)
+pub shifter-more : (s : ShiftRegister) (k : ℕ) → countedShifter (countedShifter s 1) k ≡ countedShifter s (suc k)
 shifter-more Resting k = refl
 shifter-more (Sending t) k =
     let e : t .sample .0 + 1 + k ≡ t .sample .0 + suc k = omega arith in rw e
@@ -270,7 +270,7 @@ sampler-more (Idle last) k = refl
 sampler-more (Receiving r) k =
     let e : r .sample .0 + 1 + k ≡ r .sample .0 + suc k = omega arith in rw e
 
-receiver-more : (rxen : Bool) (r : Receiver) (k : ℕ) → countedReceiver rxen (countedReceiver rxen r 1) k ≡ countedReceiver rxen r (suc k)
+pub receiver-more : (rxen : Bool) (r : Receiver) (k : ℕ) → countedReceiver rxen (countedReceiver rxen r 1) k ≡ countedReceiver rxen r (suc k)
 unfolding countedReceiver
 receiver-more true r k = rw (sampler-more (r .sampler) k)
 receiver-more false r k = refl

@@ -21,3 +21,4 @@ pub mod AppendLaws
 pub mod SettingsLaws
 pub mod RefusalLaws
 pub mod CountingLaws
+pub mod HoldingLaws

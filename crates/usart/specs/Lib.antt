@@ -17,3 +17,4 @@ pub mod Marked
 pub mod Bit
 pub mod Refusing
 pub mod Counting
+pub mod Holding

@@ -81,7 +81,7 @@ impl Baud {
 }
 
 impl Sender {
-    fn quiet(self, f: Format) -> Ticks
+    pub(crate) fn quiet(self, f: Format) -> Ticks
         ensures { λ r. ⌜ r .0 ≡ senderQuiet f (self .buffer) (self .shifter) ⌝ }
     {
         let s = self.shifter;
@@ -91,7 +91,7 @@ impl Sender {
         }
     }
 
-    fn counted(self, f: Format, n: Ticks) -> Sender
+    pub(crate) fn counted(self, f: Format, n: Ticks) -> Sender
         requires { ⌜ n .0 ≤ senderQuiet f (self .buffer) (self .shifter) ⌝ }
         ensures { λ r. ⌜ r ≡ countedSender self (n .0) ⌝ }
     {
@@ -146,14 +146,14 @@ impl Sampler {
 }
 
 impl Receiver {
-    fn quiet(self, rxen: bool, f: Format) -> Ticks
+    pub(crate) fn quiet(self, rxen: bool, f: Format) -> Ticks
         ensures { λ r. ⌜ r .0 ≡ receiverQuiet rxen f self ⌝ }
     {
         let s = self.sampler;
         if rxen { s.quiet(f) } else { UNLIMITED }
     }
 
-    fn counted(self, rxen: bool, f: Format, n: Ticks) -> Receiver
+    pub(crate) fn counted(self, rxen: bool, f: Format, n: Ticks) -> Receiver
         requires { ⌜ n .0 ≤ receiverQuiet rxen f self ⌝ }
         ensures { λ r. ⌜ r ≡ countedReceiver rxen self (n .0) ⌝ }
     {

@@ -2,6 +2,7 @@
 // recommended rate limits. It knows nothing of the SPI or of the record's bytes.
 mod baud;
 mod count;
+mod hold;
 mod limit;
 mod queue;
 mod read;
@@ -17,6 +18,8 @@ mod write;
 pub use baud::Baud;
 pub use baud::Clocks;
 pub use count::Skipped;
+pub use hold::ReceiverPassed;
+pub use hold::SenderPassed;
 pub use limit::rate_limit;
 pub use queue::Frame;
 pub use queue::Places;

@@ -1,0 +1,26 @@
+use mathlib.Core.Path.{_≡_, ap, sym, _∙_}
+use Rattle.usart.proofs.HoldingLaws.{held-parts}
+use borrow.Author.Needs.{needs}
+use Rattle.usart.proofs.unit.Usart.hold.Statement.{statement}
+use Rattle.usart.proofs.unit.Usart.hold.Tie as tie
+
+ticks-in-requires : tie.Need-ticks-in-requires
+ticks-in-requires c κs = search needs
+
+passed-requires : tie.Need-passed-requires
+passed-requires c κs = search needs
+
+hold-requires : tie.Need-hold-requires
+hold-requires c κs = search needs
+
+hold-requires-2 : tie.Need-hold-requires-2
+hold-requires-2 c κs = search needs
+
+returns : tie.Need-returns
+returns c =
+    let a = c .before .before .before .before .before .before .args in
+    rw (c .hold2 .ensures, c .before .hold .ensures, c .before .before .passed .ensures, c .before .before .before .ticks-in .ensures) (sym (held-parts (a .n .0) (a .self) (a .rxd)))
+
+pub hold-spec : {M : Type 1} → statement M
+hold-spec =
+    tie.close (tie.spec ticks-in-requires passed-requires hold-requires hold-requires-2 returns)
