@@ -1,4 +1,5 @@
--- Lists of events one after another: what holds of the whole, by what holds of the first part and of the second from where the first ends.
+-- Lists of events one after another: what holds of the whole, by what holds of the first part and of the second from
+-- where the first ends.
 use Prim.Native.Nat.{ℕ, suc, _+_}
 use mathlib.Core.List.{List, [], _∷_, _++_, append-assoc}
 use mathlib.Core.Path.{_≡_, refl, ap}

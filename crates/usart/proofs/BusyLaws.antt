@@ -2,25 +2,25 @@
 -- would is refused.
 use mathlib.Core.Path.{_≡_, refl}
 use mathlib.Core.Bool.{Bool, true, false}
-use Prim.Native.Nat.{ℕ, _+_, _*_, _/_, _%_}
-use lib.Dec.{eqb, leb}
+use Prim.Native.Nat.{ℕ}
+use lib.Dec.{eqb}
+use Rattle.choice.specs.Bit.{isSet}
 use Rattle.choice.specs.Pick.{pick}
 use Rattle.choice.proofs.Picks.{pick-ind}
 use Rattle.frame.specs.declared.format.Format.{Format}
 use Rattle.usart.specs.Sender.{isVacant}
-use Rattle.usart.specs.Settings.{codeOf, sizeOf, settingsOf}
+use Rattle.usart.specs.Settings.{settingsOf}
 use Rattle.usart.specs.Unit.{isBusy, txcRequested}
-use Rattle.usart.specs.Write.{formattedOf, txcCleared, withU2x, writeA, controlled, withSize, codedB, isReservedC, formatIn, sizedC, codedC, writeC, timedOf, writeH, transmittedOf, writeOf, vectorOf}
+use Rattle.usart.specs.Write.{formattedOf, txcCleared, timedOf, transmittedOf, vectorOf}
 use Rattle.usart.specs.Event.{settled, nextOf, write, read, vector}
 use Rattle.usart.specs.declared.baud.Baud.{Baud}
 use Rattle.usart.specs.declared.sender.Transmission.{Transmission}
 use Rattle.usart.specs.declared.sender.ShiftRegister.the-variants.{Sending}
-use Rattle.usart.specs.declared.settings.Coded.{Coded}
-use Rattle.usart.specs.declared.settings.Coded.the-variants.{Known, Reserved}
 use Rattle.usart.specs.declared.unit.Usart.{Usart}
 use Rattle.usart.specs.declared.write.Register.{Register}
-use Rattle.usart.specs.declared.write.Register.the-variants.{Ucsr0a, Ucsr0b, Ucsr0c, Ubrr0l, Ubrr0h, Udr0}
 use Rattle.usart.specs.declared.write.Written.{Written}
+use Rattle.usart.proofs.ReadLaws.{each-read}
+use Rattle.usart.proofs.WriteLaws.{Before, inA, inB, inC, Writes, each-write}
 
 pub record Kept (u v : Usart) : Type 0 where
   pub baud : v .baud ≡ u .baud
@@ -50,50 +50,29 @@ module _ (u : Usart) (t : Transmission) (e : u .sender .shifter ≡ Sending t) w
   unfolding timedOf
   timed b = rw busy (same u)
 
-  cleared : (v : ℕ) → Kept u (txcCleared u v)
+  before : (v : ℕ) {w : Usart} → Before u v w → Kept u w
   unfolding txcCleared
-  cleared v = pick-ind (Kept u) (eqb (v / 64 % 2) 1) _ _ (λ _. record { baud = refl; format = refl; shifter = refl }) (λ _. same u)
-
-  write-a : (v : ℕ) → KeptBy u (writeA u v)
-  unfolding writeA
-  write-a v = pick-ind (KeptBy u) (eqb (v % 2) 1) _ _ (λ _. same u) (λ _. formatted (txcCleared u v) (withU2x (u .format) (eqb (v / 2 % 2) 1)) (cleared v))
-
-  coded-b : (v : ℕ) (c : Coded) → KeptBy u (codedB u v c)
-  coded-b v (Known z) = formatted (controlled u v) (withSize (u .format) z) (record { baud = refl; format = refl; shifter = refl })
-  coded-b v Reserved = same u
-
-  coded-c : (v : ℕ) (c : Coded) → KeptBy u (codedC u v c)
-  unfolding sizedC
-  coded-c v (Known z) = pick-ind (KeptBy u) (eqb (v / 64) 0) _ _ (λ _. formatted u (formatIn u z v) (same u)) (λ _. same u)
-  coded-c v Reserved = same u
-
-  write-c : (v : ℕ) → KeptBy u (writeC u v)
-  unfolding writeC
-  write-c v = pick-ind (KeptBy u) (isReservedC v) _ _ (λ _. same u) (λ _. coded-c v (sizeOf (codeOf (u .format .size) / 4 * 4 + v / 2 % 4)))
-
-  write-h : (v : ℕ) → KeptBy u (writeH u v)
-  unfolding writeH
-  write-h v = pick-ind (KeptBy u) (leb 16 v) _ _ (λ _. same u) (λ _. timed (record { ubrr = v * 256 + u .baud .ubrr % 256; left = u .baud .left }))
+  before v inA = pick-ind (Kept u) (isSet v 64) _ _ (λ _. record { baud = refl; format = refl; shifter = refl }) (λ _. same u)
+  before v inB = record { baud = refl; format = refl; shifter = refl }
+  before v inC = same u
 
   transmitted : (v : ℕ) → Kept u (transmittedOf u v)
   unfolding transmittedOf
   transmitted v = pick-ind (Kept u) (u .control .txen) _ _ (λ _. record { baud = refl; format = refl; shifter = refl }) (λ _. same u)
 
   pub kept-write : (r : Register) (v : ℕ) → Kept u (nextOf u (write r v))
-  kept-write Ucsr0a v = write-a v
-  kept-write Ucsr0b v = coded-b v (sizeOf (v / 4 % 2 * 4 + codeOf (u .format .size) % 4))
-  kept-write Ucsr0c v = write-c v
-  kept-write Ubrr0l v = timed _
-  kept-write Ubrr0h v = write-h v
-  kept-write Udr0 v = transmitted v
+  kept-write r v = each-write {P = KeptBy u} u v by r
+    where
+      by : Writes (KeptBy u) u v
+      by = record {
+        refused = λ _. same u;
+        formatted = λ w f p. formatted w f (before v p);
+        timed = λ b _. timed b;
+        sent = transmitted v;
+      }
 
   pub kept-read : (r : Register) → Kept u (nextOf u (read r))
-  kept-read Ucsr0a = same u
-  kept-read Ucsr0b = same u
-  kept-read Ucsr0c = same u
-  kept-read Ubrr0l = same u
-  kept-read Ubrr0h = same u
-  kept-read Udr0 = record { baud = refl; format = refl; shifter = refl }
+  kept-read r = each-read (Kept u) u r (λ _. same u) (λ _. record { baud = refl; format = refl; shifter = refl })
 
   pub kept-vector : Kept u (nextOf u vector)
   unfolding vectorOf

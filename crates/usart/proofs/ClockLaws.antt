@@ -7,38 +7,36 @@ use native.Mathlib.Omega.{arith}
 use lib.ListN.{length}
 use borrow.Author.Tests.{eq-eqb, ne-eqb}
 use Rattle.frame.specs.declared.format.Format.{Format}
-use Rattle.usart.specs.Baud.{leftOf}
+use Rattle.usart.specs.Baud.{leftOf, loadedBaud}
 use Rattle.usart.specs.Sender.{senderOf}
 use Rattle.usart.specs.Sampler.{samplerOf}
 use Rattle.usart.specs.Queue.{heldIn, markedOf, storedIn}
 use Rattle.usart.specs.Receiver.{receiverOf, listenedOf}
 use Rattle.usart.specs.Unit.{clockOf}
+use Rattle.usart.specs.Write.{withBaud}
 use Rattle.usart.specs.Receiving.{outcomeAt}
 use Rattle.usart.specs.declared.queue.Frame.{Frame}
 use Rattle.usart.specs.declared.queue.Places.{Places}
 use Rattle.usart.specs.declared.queue.Places.the-variants.{Empty, One, Two}
+use Rattle.usart.specs.declared.baud.Baud.{Baud}
+use Rattle.usart.specs.declared.sender.Sender.{Sender}
 use Rattle.usart.specs.declared.receiver.Receiver.{Receiver}
 use Rattle.usart.specs.declared.unit.Usart.{Usart}
 
+-- the unit with other parts
+abbrev pub with : Usart → Baud → Sender → Receiver → Usart
+with u b s r = record { baud = b; format = u .format; control = u .control; sender = s; receiver = r }
+
+pub same-parts : (u : Usart) {a b : Baud} {s t : Sender} {q r : Receiver} → a ≡ b → s ≡ t → q ≡ r → with u a s q ≡ with u b t r
+same-parts u p q r = cc
+
 -- the unit after a tick of its baud clock
 abbrev pub tickedAs : Usart → Receiver → Usart
-tickedAs u r = record {
-  baud = record { ubrr = u .baud .ubrr; left = record { 0 = u .baud .ubrr } };
-  format = u .format;
-  control = u .control;
-  sender = senderOf (u .format) (u .sender);
-  receiver = r;
-}
+tickedAs u r = with u (loadedBaud (u .baud .ubrr)) (senderOf (u .format) (u .sender)) r
 
 -- and after a clock with no tick, with k left
 abbrev pub waitedAs : Usart → ℕ → Usart
-waitedAs u k = record {
-  baud = record { ubrr = u .baud .ubrr; left = record { 0 = k } };
-  format = u .format;
-  control = u .control;
-  sender = u .sender;
-  receiver = u .receiver;
-}
+waitedAs u k = withBaud u (record { ubrr = u .baud .ubrr; left = record { 0 = k } })
 
 pub clock-tick : (u : Usart) (l : Bool) → u .baud .left .0 ≡ 0 → clockOf u l ≡ tickedAs u (listenedOf (u .control .rxen) (u .format) (u .receiver) l)
 unfolding clockOf leftOf

@@ -1,5 +1,5 @@
--- Clocks that only count: each comes to what `clockOf` says at either level of RxD, and many at once to as many one by one. They hold of
--- every unit, also one out of its ranges.
+-- Clocks that only count: each comes to what `clockOf` says at either level of RxD, and many at once to as many one by
+-- one. They hold of every unit, also one out of its ranges.
 use mathlib.Core.Path.{_≡_, refl, ap, sym, _∙_}
 use mathlib.Core.Bool.{Bool, true, false}
 use mathlib.Core.Logic.{_⊎_, inl, inr, ⊎-elim}
@@ -10,13 +10,15 @@ use borrow.Author.Tests.{eq-eqb, ne-eqb, lt-ltb, le-ltb, eqb-true, ltb-true, ltb
 use Rattle.choice.proofs.Picks.{pick-ind, split}
 use Rattle.frame.specs.Format.{samples, firstVote}
 use Rattle.frame.specs.declared.format.Format.{Format}
-use Rattle.frame.proofs.FormatLaws.{samples-half, first-vote-range}
+use Rattle.frame.proofs.FormatLaws.{samples-half, samples-range}
 use Rattle.usart.specs.Baud.{ticks, leftOf, ticksIn}
 use Rattle.usart.specs.Sender.{isResting, steppedOf, senderOf, txdOf}
 use Rattle.usart.specs.Sampler.{still, castOf, votedOf, sampledOf, samplerOf}
 use Rattle.usart.specs.Receiver.{putOf, listenedOf}
 use Rattle.usart.specs.Unit.{clockOf, isDriven, outputOf}
-use Rattle.usart.specs.Counting.{least, senderQuiet, bitQuiet, samplerQuiet, receiverQuiet, quietOf, countedShifter, countedSender, countedSampler, countedReceiver, countedBaud, countedOf}
+use Rattle.usart.specs.Counting.{least, senderQuiet, bitQuiet, samplerQuiet, receiverQuiet, quietOf}
+use Rattle.usart.specs.Counting.{countedShifter, countedSender, countedSampler, countedReceiver, countedBaud}
+use Rattle.usart.specs.Counting.{countedOf}
 use Rattle.usart.specs.declared.baud.Baud.{Baud}
 use Rattle.usart.specs.declared.sender.Buffer.{Buffer}
 use Rattle.usart.specs.declared.sender.Buffer.the-variants.{Vacant, Full}
@@ -30,6 +32,7 @@ use Rattle.usart.specs.declared.sampler.Sampler.the-variants.{Idle, Rece
 use Rattle.usart.specs.declared.sampler.Sampled.{Sampled}
 use Rattle.usart.specs.declared.receiver.Receiver.{Receiver}
 use Rattle.usart.specs.declared.unit.Usart.{Usart}
+use Rattle.usart.proofs.ClockLaws.{with, same-parts}
 
 pub least-le : (n a b : ℕ) → n ≤ least a b → (n ≤ a) × (n ≤ b)
 unfolding least
@@ -52,19 +55,12 @@ every-clock (suc n) b z l =
 pub every-tick : (ubrr : ℕ) {n k : ℕ} → ubrr ≡ 0 → n ≡ k * (ubrr + 1) → n ≡ k
 every-tick ubrr z e = e ∙ rw z (omega arith)
 
--- the unit with other parts
-abbrev pub with : Usart → Baud → Sender → Receiver → Usart
-with u b s r = record { baud = b; format = u .format; control = u .control; sender = s; receiver = r }
-
-pub same-parts : (u : Usart) {a b : Baud} {s t : Sender} {q r : Receiver} → a ≡ b → s ≡ t → q ≡ r → with u a s q ≡ with u b t r
-same-parts u p q r = cc
-
 module _ (f : Format) where
   -- the sender's count has room for the ticks that it only counts
   pub sending-fits : (b : Buffer) (s : ShiftRegister) (t : Transmission) (n : ℕ) → s ≡ Sending t → n ≤ senderQuiet f b s → n ≤ 255 - t .sample .0
   unfolding senderQuiet
   sending-fits b s t n e h =
-      let g : n ≤ senderQuiet f b (Sending t) = rw e at h in omega (arith, samples-half f, first-vote-range f)
+      let g : n ≤ senderQuiet f b (Sending t) = rw e at h in omega (arith, samples-range f)
 
   pub sender-clock : (s : Sender) → 1 ≤ senderQuiet f (s .buffer) (s .shifter) → senderOf f s ≡ countedSender s 1
   unfolding senderQuiet steppedOf
@@ -105,39 +101,23 @@ module _ (f : Format) where
       (z .votes)
 
   pub receiving-fits : (s : Sampler) (r : Reception) (n : ℕ) → s ≡ Receiving r → n ≤ samplerQuiet f s → n ≤ 255 - r .sample .0
-  unfolding bitQuiet
-  receiving-fits s r n e h =
-      let g : n ≤ samplerQuiet f (Receiving r) = rw e at h in
-      let v = first-vote-range f in
-      pick-ind (λ (m : ℕ). n ≤ m → n ≤ 255 - r .sample .0) (ltb (r .sample .0) (firstVote f)) _ _
-      (λ _ q. omega arith)
-      (λ _. pick-ind (λ (m : ℕ). n ≤ m → n ≤ 255 - r .sample .0) (ltb (r .sample .0) (firstVote f + 2)) _ _
-      (λ _ q. omega arith)
-      (λ _ q. omega (arith, samples-half f)))
-      g
-
-  -- sample number n + 1, neither the bit's last nor a voting one
-  sampled-plain : (r : Reception) (l : Bool) → r .sample .0 + 1 < samples f → (r .sample .0 + 1 ≡ firstVote f → ⊥)
-      → (r .sample .0 + 1 ≡ firstVote f + 1 → ⊥) → (r .sample .0 + 1 ≡ firstVote f + 2 → ⊥)
-      → sampledOf f r l ≡ still (countedSampler (Receiving r) 1)
-  unfolding sampledOf votedOf castOf
-  sampled-plain r l i a b c =
-      rw (
-        lt-ltb (r .sample .0) (samples f - 1) (omega arith),
-        ne-eqb (r .sample .0 + 1) (firstVote f + 2) c,
-        ne-eqb (r .sample .0 + 1) (firstVote f) a,
-        ne-eqb (r .sample .0 + 1) (firstVote f + 1) b,
-      )
+  receiving-fits s r zero e h = omega arith
+  receiving-fits s r (suc k) e h =
+      omega (arith, silent (r .sample .0) k (rw e at h) .inner, samples-range f)
 
   sampler-clock : (s : Sampler) (l : Bool) → 1 ≤ samplerQuiet f s → samplerOf f s l ≡ still (countedSampler s 1)
-  unfolding samplerOf
+  unfolding samplerOf sampledOf votedOf castOf
   sampler-clock (Idle last) l h = absurd (omega arith)
   sampler-clock (Receiving r) l h =
       let z = silent (r .sample .0) 0 h in
-      ⊎-elim
-      (λ a. sampled-plain r l (z .inner) (λ q. omega arith) (λ q. omega arith) (λ q. omega arith))
-      (λ a. sampled-plain r l (z .inner) (λ q. omega arith) (λ q. omega arith) (λ q. omega arith))
-      (z .votes)
+      let no-vote : (m : ℕ) → firstVote f ≤ m → m ≤ firstVote f + 2 → eqb (r .sample .0 + 1) m ≡ false =
+      λ m lo hi. ne-eqb (r .sample .0 + 1) m (λ q. ⊎-elim (λ a. omega arith) (λ a. omega arith) (z .votes)) in
+      rw (
+        lt-ltb (r .sample .0) (samples f - 1) (omega (arith, z .inner)),
+        no-vote (firstVote f + 2) (omega arith) (omega arith),
+        no-vote (firstVote f) (omega arith) (omega arith),
+        no-vote (firstVote f + 1) (omega arith) (omega arith),
+      )
 
   sampler-after : (s : Sampler) (k : ℕ) → suc k ≤ samplerQuiet f s → k ≤ samplerQuiet f (countedSampler s 1)
   sampler-after (Idle last) k h = absurd (omega arith)

@@ -1,9 +1,9 @@
--- What an event other than a clock may change: with no write done but of UDR0, the sender alone, or the queue by a read of UDR0.
+-- What an event other than a clock may change: with no write done but of UDR0, the sender alone, or the queue by a read
+-- of UDR0.
 use mathlib.Core.Path.{_≡_, refl}
 use mathlib.Core.Bool.{true, false}
 use Prim.Native.Nat.{ℕ}
-use native.Mathlib.Omega.{arith}
-use Rattle.choice.proofs.Picks.{pick-ind}
+use Rattle.choice.proofs.Picks.{pick-ind, clash}
 use Rattle.usart.specs.Sender.{acknowledgedOf}
 use Rattle.usart.specs.Unit.{txcRequested}
 use Rattle.usart.specs.Write.{withSender, transmittedOf, writeOf, vectorOf}
@@ -23,7 +23,7 @@ pub unchanged : (u : Usart) → OnlySender u u
 unchanged u = (u .sender, refl)
 
 pub refused-settled : (u : Usart) (w : Written) → isRefused w ≡ true → settled u w ≡ u
-refused-settled u (Done v) e = let z : _≡_ {A = ℕ} 0 1 = cc in absurd (omega arith)
+refused-settled u (Done v) e = clash e refl
 refused-settled u (Refused r) e = refl
 
 pub only-transmitted : (u : Usart) (v : ℕ) → OnlySender u (transmittedOf u v)

@@ -17,8 +17,8 @@ use Rattle.usart.specs.Sender.{isVacant, isResting, senderOf}
 use Rattle.usart.specs.Sampler.{still, idleOf, samplerOf}
 use Rattle.usart.specs.Receiver.{putOf, listenedOf}
 use Rattle.usart.specs.Unit.{tickedOf, clockOf, outputOf, isDriven, requestsOf}
-use Rattle.usart.specs.Counting.{least, senderQuiet, receiverQuiet, countedShifter, countedSender, countedReceiver}
-use Rattle.usart.specs.Holding.{clockAt, heldOf, passedBaud, heldSender, listenedAt, heldReceiver}
+use Rattle.usart.specs.Counting.{least, senderQuiet, receiverQuiet, countedSender, countedReceiver}
+use Rattle.usart.specs.Holding.{heldOf, passedBaud, heldSender, listenedAt, heldReceiver}
 use Rattle.usart.specs.Holding.{senderRests, samplerRests, receiverRests, isAtRest, PassedOn}
 use Rattle.usart.specs.Write.{withBaud}
 use Rattle.usart.specs.declared.baud.Baud.{Baud}
@@ -32,7 +32,8 @@ use Rattle.usart.specs.declared.sampler.Sampler.the-variants.{Idle, Rece
 use Rattle.usart.specs.declared.sampler.Sampled.{Sampled}
 use Rattle.usart.specs.declared.receiver.Receiver.{Receiver}
 use Rattle.usart.specs.declared.unit.Usart.{Usart}
-use Rattle.usart.proofs.CountingLaws.{least-le, with, same-parts, sender-clock, sender-after, shifter-none, shifter-more}
+use Rattle.usart.proofs.ClockLaws.{with, same-parts}
+use Rattle.usart.proofs.CountingLaws.{least-le, sender-clock, sender-after, shifter-none, shifter-more}
 use Rattle.usart.proofs.CountingLaws.{receiver-clock, receiver-after, receiver-none, receiver-more}
 
 abbrev at : ℕ → ℕ → Baud

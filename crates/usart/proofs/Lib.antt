@@ -8,6 +8,7 @@ pub mod LineLaws
 pub mod Noise
 pub mod OneTick
 pub mod ReadLaws
+pub mod WriteLaws
 pub mod EventLaws
 pub mod ClockLaws
 pub mod ReceivingLine

@@ -1,4 +1,5 @@
--- The rule of the two tables: D + 1 bits of the rate error are at most 0.18 of a bit. It is computed once over each table.
+-- The rule of the two tables: D + 1 bits of the rate error are at most 0.18 of a bit. It is computed once over each
+-- table.
 use Prim.Native.Nat.{ℕ, zero, suc, _+_, _-_, _*_, _≤_, _<_}
 use mathlib.Core.Bool.{Bool, true, false}
 use mathlib.Core.List.{List, [], _∷_}

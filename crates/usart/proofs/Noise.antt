@@ -1,5 +1,5 @@
--- Noise on the wire, as the one-tick law carries it: only voting samples are turned over, at most one of a bit's three, and never the
--- last vote of the stop bit. Without noise every hit is `false`.
+-- Noise on the wire, as the one-tick law carries it: only voting samples are turned over, at most one of a bit's three,
+-- and never the last vote of the stop bit. Without noise every hit is `false`.
 use mathlib.Core.Path.{_≡_, refl}
 use mathlib.Core.Bool.{Bool, true, false}
 use Prim.Native.Nat.{ℕ, _+_, _-_, _≤_, _<_}

@@ -14,7 +14,7 @@ use Rattle.choice.proofs.Picks.{pick-ind}
 use Rattle.frame.specs.Format.{samples, wordBits, lastBit}
 use Rattle.frame.specs.Word.{wordOf, frameBit}
 use Rattle.frame.specs.declared.format.Format.{Format}
-use Rattle.frame.proofs.FormatLaws.{samples-half, first-vote-range, stop-bits-range}
+use Rattle.frame.proofs.FormatLaws.{samples-range, stop-bits-range}
 use Rattle.usart.specs.Sender.{isVacant, isResting, movedFrom, steppedOf, shiftedOn, senderOf}
 use Rattle.usart.specs.Unit.{bitClocks, clockOf, isDriven, outputOf}
 use Rattle.usart.specs.Event.{Event, clock, write, read, vector, nextOf, finalOf}
@@ -65,32 +65,20 @@ record Clocked (u v : Usart) (k : ℕ) (x : ShiftRegister) : Type 0 where
   counter : v .baud .left .0 ≡ k
   shifter : v .sender .shifter ≡ x
 
-ticked : (u : Usart) (rxd : Bool) → u .baud .left .0 ≡ 0 → Clocked u (clockOf u rxd) (u .baud .ubrr) (senderOf (u .format) (u .sender) .shifter)
-ticked u rxd left =
-    let eq = clock-tick u rxd left in
-    record {
-      format = ap (λ (x : Usart). x .format) eq;
-      rate = ap (λ (x : Usart). x .baud .ubrr) eq;
-      counter = ap (λ (x : Usart). x .baud .left .0) eq;
-      shifter = ap (λ (x : Usart). x .sender .shifter) eq;
-    }
+ticked : (f : Format) (u : Usart) (rxd : Bool) → u .format ≡ f → u .baud .left .0 ≡ 0
+    → Clocked u (clockOf u rxd) (u .baud .ubrr) (senderOf f (u .sender) .shifter)
+ticked f u rxd ef left =
+    subst (λ (v : Usart). Clocked u v (u .baud .ubrr) (senderOf f (u .sender) .shifter)) (sym (clock-tick u rxd left))
+    (record { format = refl; rate = refl; counter = refl; shifter = ap (λ (g : Format). senderOf g (u .sender) .shifter) ef })
 
 waited : (u : Usart) (rxd : Bool) (k : ℕ) → u .baud .left .0 ≡ suc k → Clocked u (clockOf u rxd) k (u .sender .shifter)
 waited u rxd k left =
-    let eq = clock-wait u rxd k left in
-    record {
-      format = ap (λ (x : Usart). x .format) eq;
-      rate = ap (λ (x : Usart). x .baud .ubrr) eq;
-      counter = ap (λ (x : Usart). x .baud .left .0) eq;
-      shifter = ap (λ (x : Usart). x .sender .shifter) eq;
-    }
+    subst (λ (v : Usart). Clocked u v k (u .sender .shifter)) (sym (clock-wait u rxd k left))
+    (record { format = refl; rate = refl; counter = refl; shifter = refl })
 
 module _ (f : Format) where
   abbrev S : ℕ
   S = samples f
-
-  s1 : 1 ≤ S
-  s1 = omega (arith, samples-half f, first-vote-range f)
 
   shown : (w b n : ℕ) (u : Usart) → u .format ≡ f → u .sender .shifter ≡ sendingAt w b n → OnLine f w b u
   shown w b n u ef e =
@@ -131,15 +119,11 @@ module _ (f : Format) where
         (λ _ e. inl (sym (ap passedIn e)))
         (λ _. fresh-moved (Sending t) (s .buffer) (s .txc) true))
 
-  -- the same unit after a tick, its format being f
-  ticked-as : (u : Usart) (rxd : Bool) → u .format ≡ f → u .baud .left .0 ≡ 0 → Clocked u (clockOf u rxd) (u .baud .ubrr) (senderOf f (u .sender) .shifter)
-  ticked-as u rxd ef left = subst (λ (x : Format). Clocked u (clockOf u rxd) (u .baud .ubrr) (senderOf x (u .sender) .shifter)) ef (ticked u rxd left)
-
   -- where the shifter takes what the buffer holds, a start bit begins
   loads : (d : ℕ) (u : Usart) (rxd kept txc : Bool) → u .format ≡ f → u .baud .left .0 ≡ 0 → u .sender .buffer ≡ Full d
       → senderOf f (u .sender) .shifter ≡ movedFrom f (u .sender .buffer) kept txc .shifter → (OnLine f (wordOf f d) 0 u → ⊥) → Begins f (wordOf f d) 0 u rxd
   loads d u rxd kept txc ef left full e none =
-      let c = ticked-as u rxd ef left in
+      let c = ticked f u rxd ef left in
       record {
         before = none;
         after = shown (wordOf f d) 0 0 (clockOf u rxd) (c .format ∙ ef) (c .shifter ∙ e ∙ ap (λ (y : Buffer). movedFrom f y kept txc .shifter) full);
@@ -189,7 +173,7 @@ module _ (f : Format) where
         by : (left : ℕ) → u .baud .left .0 ≡ left → Within (suc k) (clockOf u rxd)
         by zero e =
             let more : i .passed + 1 < S = lt-of-mul-lt-mul-right M (omega (arith, i .count)) in
-            goes (u .baud .ubrr) (i .passed + 1) _ (ticked-as u rxd (i .format) e) (stepped (u .sender) w b (i .passed) (i .shifter) more) more
+            goes (u .baud .ubrr) (i .passed + 1) _ (ticked f u rxd (i .format) e) (stepped (u .sender) w b (i .passed) (i .shifter) more) more
             (omega (arith, i .count, i .rate))
         by (suc left) e = goes left (i .passed) _ (waited u rxd left e) (i .shifter) (i .few) (omega (arith, i .count))
 
@@ -218,7 +202,7 @@ module _ (f : Format) where
 
     module _ (u : Usart) (z : Ending u) where
       after : (rxd : Bool) → Clocked u (clockOf u rxd) (u .baud .ubrr) (senderOf f (u .sender) .shifter)
-      after rxd = ticked-as u rxd (z .format) (z .tick)
+      after rxd = ticked f u rxd (z .format) (z .tick)
 
       turns : b < lastBit f → senderOf f (u .sender) .shifter ≡ sendingAt w (b + 1) 0
       turns = turned (u .sender) w b (z .passed) (z .shifter) (z .all)
@@ -274,7 +258,7 @@ begun u rxd w b g = by (u .baud .left .0) refl
 
     by : (left : ℕ) → u .baud .left .0 ≡ left → Within (u .format) (u .baud .ubrr) w b 0 (clockOf u rxd)
     by zero e =
-        let c = ticked u rxd e in
+        let c = ticked (u .format) u rxd refl e in
         let n : ℕ = g .after .passed in
         let none : n ≡ 0 =
         ⊎-elim (λ q. q) (λ m. absurd (before (m .0) (m .1)))
@@ -284,7 +268,7 @@ begun u rxd w b g = by (u .baud .left .0) refl
           rate = c .rate;
           passed = 0;
           shifter = g .after .shifter ∙ ap (sendingAt w b) none;
-          few = s1 (u .format);
+          few = omega (arith, samples-range (u .format));
           count = omega (arith, c .counter);
         }
     by (suc left) e = absurd (before (g .after .passed) (sym (waited u rxd left e .shifter) ∙ g .after .shifter))

@@ -1,16 +1,18 @@
--- One tick of the sampler keeps the invariant of demand 3: it is idle between frames, or in step with the frame on the line.
+-- One tick of the sampler keeps the invariant of demand 3: it is idle between frames, or in step with the frame on the
+-- line.
 use mathlib.Core.Path.{_≡_, refl, _∙_, sym, ap}
 use mathlib.Core.Bool.{Bool, true, false}
 use mathlib.Core.List.{List, [], _∷_}
-use Prim.Native.Nat.{ℕ, zero, suc, _+_, _-_, _*_, _/_, _%_, _^_, _≤_, _<_}
-use native.Mathlib.Nat.{mul-le-mul-right, lt-of-mul-lt-mul-right, mod-one, mod-lt, mod-eq-of-lt, div-eq-of-lt}
+use Prim.Native.Nat.{ℕ, suc, _+_, _-_, _*_, _/_, _%_, _^_, _≤_, _<_}
+use native.Mathlib.Nat.{mul-le-mul-right, lt-of-mul-lt-mul-right, mod-one, mod-eq-of-lt, div-eq-of-lt}
 use native.Mathlib.Numerals.{one-add}
 use native.Mathlib.Decide.{decLt}
 use native.Mathlib.Omega.{arith}
-use lib.Dec.{leb, ltb, eqb, lit≤}
+use lib.Dec.{leb, ltb, eqb}
 use lib.Pow.{mod-pow-add, pow-add}
 use borrow.Author.Tests.{le-leb, ltb-true, ltb-false, leb-true, leb-false, eqb-true, eqb-false, ne-eqb}
 use Rattle.choice.specs.Pick.{pick, digit}
+use Rattle.choice.proofs.Digits.{digit-odd}
 use Rattle.choice.proofs.Picks.{pick-ind, pick-split}
 use Rattle.frame.specs.Format.{samples, firstVote, wordBits}
 use Rattle.frame.specs.Vote.{majorityOf}
@@ -18,7 +20,8 @@ use Rattle.frame.specs.Word.{wordOf, frameBit}
 use Rattle.frame.specs.declared.format.Format.{Format}
 use Rattle.frame.proofs.FormatLaws.{samples-half}
 use Rattle.frame.proofs.WordLaws.{start-bit, word-bit, stop-bit, word-lt}
-use Rattle.usart.specs.Sampler.{idleOf, castOf, nextBitOf, withWord, shiftedOf, decidedOf, votedOf, sampledOf, samplerOf}
+use Rattle.usart.specs.Sampler.{idleOf, castOf, nextBitOf, withWord, shiftedOf, decidedOf, votedOf, sampledOf}
+use Rattle.usart.specs.Sampler.{samplerOf}
 use Rattle.usart.specs.Line.{Sent, lineLevel}
 use Rattle.usart.specs.declared.sampler.Reception.{Reception}
 use Rattle.usart.specs.declared.sampler.Sampler.{Sampler}
@@ -28,16 +31,12 @@ use Rattle.usart.specs.declared.sampler.Outcome.the-variants.{Nothing, C
 use Rattle.usart.specs.declared.sampler.Sampled.{Sampled}
 use Rattle.usart.proofs.Rates.{Rates, tick-short, vote-low, vote-high, vote-bit}
 use Rattle.usart.proofs.LineLaws.{From, before, within, quiet}
-use Rattle.usart.proofs.Noise.{turn, hits, Allowed, hit-one, hit-vote, hit-stop, hit-idle, differs, differs-turn, majority-right}
+use Rattle.usart.proofs.Noise.{turn, hits, Allowed, hit-one, hit-vote, hit-stop, hit-idle, differs, differs-turn}
+use Rattle.usart.proofs.Noise.{majority-right}
 
 -- k bits of the word w, of D bits, shifted in at the top
 abbrev pub partOf : ℕ → ℕ → ℕ → ℕ
 partOf D w k = w % 2 ^ k * 2 ^ (D - k)
-
-digit-eqb : (n : ℕ) → n < 2 → digit (eqb n 1) ≡ n
-digit-eqb zero l = refl
-digit-eqb (suc zero) l = refl
-digit-eqb (suc (suc n)) l = absurd (omega arith)
 
 -- one more bit
 part-more : (D w k : ℕ) (m : Bool) → k < D → m ≡ eqb (w / 2 ^ k % 2) 1 → partOf D w k / 2 + digit m * 2 ^ (D - 1) ≡ partOf D w (suc k)
@@ -46,7 +45,7 @@ part-more D w k m h em =
     let p1 : 2 ^ (D - k) ≡ 2 * 2 ^ E = ap (λ (n : ℕ). 2 ^ n) (omega arith) ∙ pow-add 2 1 E in
     let p2 : 2 ^ (D - 1) ≡ 2 ^ k * 2 ^ E = ap (λ (n : ℕ). 2 ^ n) (omega arith) ∙ pow-add 2 k E in
     let q : w % 2 ^ suc k ≡ w / 2 ^ k % 2 * 2 ^ k + w % 2 ^ k = rw (← one-add k) (mod-pow-add w 1 k) in
-    let dm : digit m ≡ w / 2 ^ k % 2 = rw em (digit-eqb (w / 2 ^ k % 2) (mod-lt (w / 2 ^ k) (lit≤ tt))) in
+    let dm : digit m ≡ w / 2 ^ k % 2 = rw em (digit-odd (w / 2 ^ k)) in
     rw (p1, p2, q, dm) (omega arith)
 
 part-all : (D w : ℕ) → w < 2 ^ D → partOf D w D ≡ w
@@ -54,7 +53,8 @@ part-all D w h =
     let e : D - D ≡ 0 = omega arith in
     rw (e, mod-eq-of-lt h) (omega arith)
 
--- in step with the frame s, whose first low sample was at clock a, before clock j and k clocks before the next tick; e votes of this bit hit
+-- in step with the frame s, whose first low sample was at clock a, before clock j and k clocks before the next tick; e
+-- votes of this bit hit
 pub record InStep (f : Format) (M j k : ℕ) (r : Reception) (e : ℕ) (s : Sent) : Type 0 where
   pub a : ℕ
   pub lo : s .start ≤ a

@@ -1,4 +1,5 @@
--- The arithmetic of demand 3, once over S = 2 * h and D: at a voting sample the line shows the bit that is being voted on.
+-- The arithmetic of demand 3, once over S = 2 * h and D: at a voting sample the line shows the bit that is being voted
+-- on.
 use mathlib.Core.Path.{_≡_, subst}
 use Prim.Native.Nat.{ℕ, _+_, _*_, _/_, _≤_, _<_}
 use native.Mathlib.Nat.{mul-le-mul-left, mul-le-mul-right, div-eq-of-lt-le}
@@ -9,7 +10,8 @@ use Rattle.frame.specs.declared.format.Format.{Format}
 use Rattle.frame.proofs.FormatLaws.{samples-half, first-vote-range, word-bits-range}
 use Rattle.usart.proofs.LimitLaws.{limit-small}
 
--- the sender's bit is P/Q clocks, the receiver's 2 * h samples of M clocks, and D + 1 bits of their difference are at most 0.18 of a bit
+-- the sender's bit is P/Q clocks, the receiver's 2 * h samples of M clocks, and D + 1 bits of their difference are at
+-- most 0.18 of a bit
 pub record Rates (h M P Q D : ℕ) : Type 0 where
   pub r : ℕ
   pub h4 : 4 ≤ h

@@ -1,23 +1,37 @@
--- What the registers' bits say of the oldest frame.
+-- What a read changes, and what the registers' bits say of the oldest frame.
 use mathlib.Core.Path.{_≡_, refl, _∙_, ap}
-use mathlib.Core.Bool.{Bool, not}
+use mathlib.Core.Bool.{Bool, true, false, not}
 use mathlib.Core.List.{[], _∷_, _++_, map}
-use Prim.Native.Nat.{ℕ, zero, suc, _+_, _*_, _/_, _%_, _≤_, _<_}
-use native.Mathlib.Nat.{mod-lt}
+use Prim.Native.Nat.{ℕ, _+_, _*_, _/_}
 use native.Mathlib.Omega.{arith}
-use lib.Dec.{eqb, lit≤}
+use lib.Dec.{eqb}
 use Rattle.choice.specs.Bit.{bitAt}
 use Rattle.choice.specs.Pick.{pick, digit}
-use Rattle.choice.proofs.Digits.{digit-le}
+use Rattle.choice.proofs.Digits.{digit-le, digit-odd}
+use Rattle.choice.proofs.Picks.{clash}
 use Rattle.usart.specs.Sender.{isVacant}
 use Rattle.usart.specs.Queue.{heldIn, isEmpty, oldestOf, takenFrom}
-use Rattle.usart.specs.Read.{ucsr0a, ucsr0b, oldest}
-use Rattle.usart.specs.Event.{read}
+use Rattle.usart.specs.Read.{ucsr0a, ucsr0b, oldest, poppedOf, readOf}
+use Rattle.usart.specs.Event.{read, isUdr0}
 use Rattle.usart.specs.Receiving.{seenBy, seenIn, takenBy}
 use Rattle.usart.specs.declared.queue.Places.{Places}
 use Rattle.usart.specs.declared.queue.Places.the-variants.{Empty, One, Two}
 use Rattle.usart.specs.declared.unit.Usart.{Usart}
-use Rattle.usart.specs.declared.write.Register.the-variants.{Udr0}
+use Rattle.usart.specs.declared.write.Register.{Register}
+use Rattle.usart.specs.declared.write.Register.the-variants.{Ucsr0a, Ucsr0b, Ucsr0c, Ubrr0l, Ubrr0h, Udr0}
+
+-- only a read of UDR0 changes anything
+pub each-read : (P : Usart → Type 0) (u : Usart) (r : Register) → (isUdr0 r ≡ false → P u) → (isUdr0 r ≡ true → P (poppedOf u))
+    → P (readOf u r .usart)
+each-read P u Ucsr0a other it = other refl
+each-read P u Ucsr0b other it = other refl
+each-read P u Ucsr0c other it = other refl
+each-read P u Ubrr0l other it = other refl
+each-read P u Ubrr0h other it = other refl
+each-read P u Udr0 other it = it refl
+
+pub read-keeps : (u : Usart) (r : Register) → isUdr0 r ≡ false → readOf u r .usart ≡ u
+read-keeps u r e = each-read (λ (v : Usart). v ≡ u) u r (λ _. refl) (λ t. clash t e)
 
 -- flags in a byte, as in UCSR0A, each read back by its place
 pub record Flags (n : ℕ) (b7 b5 b4 b3 b2 : Bool) : Type 0 where
@@ -38,14 +52,6 @@ flags a b c d e g k =
     let g1 = digit-le g in
     let k1 = digit-le k in
     record { bit7 = omega arith; bit5 = omega arith; bit4 = omega arith; bit3 = omega arith; bit2 = omega arith }
-
-digit-odd : (n : ℕ) → digit (eqb (n % 2) 1) ≡ n % 2
-digit-odd n = by (n % 2) (mod-lt n (lit≤ tt))
-  where
-    by : (m : ℕ) → m < 2 → digit (eqb m 1) ≡ m
-    by zero h = refl
-    by (suc zero) h = refl
-    by (suc (suc m)) h = absurd (omega arith)
 
 module _ (u : Usart) where
   abbrev rxc : Bool

@@ -1,31 +1,34 @@
 -- Every operation keeps the ranges, and reset has them.
 use mathlib.Core.Path.{_≡_, refl, sym, _∙_, ap}
 use mathlib.Core.Bool.{Bool, true, false}
-use Prim.Native.Nat.{ℕ, _+_, _-_, _*_, _/_, _%_, _^_, _≤_, _<_}
-use native.Mathlib.Nat.{mod-lt, eq-or-lt-of-le}
-use mathlib.Core.Logic.{⊎-elim}
+use Prim.Native.Nat.{ℕ, _+_, _-_, _*_, _/_, _^_, _≤_, _<_}
+use native.Mathlib.Nat.{mod-lt}
 use native.Mathlib.Omega.{arith}
 use lib.Dec.{eqb, ltb, leb, lit<, lit≤}
 use lib.Pow.{pow-pos, pow-mono, pow-add}
-use borrow.Author.Tests.{eqb-true, eqb-false, ltb-true, ltb-false, leb-true, leb-false}
+use borrow.Author.Tests.{eqb-true, eqb-false, ltb-true, ltb-false, leb-true}
+use Rattle.choice.specs.Bit.{isSet}
 use Rattle.choice.specs.Pick.{pick, digit}
-use Rattle.choice.proofs.Picks.{pick-ind}
+use Rattle.choice.proofs.Picks.{pick-ind, clash}
 use Rattle.frame.specs.Format.{samples, firstVote, dataBits, wordBits, lastBit}
 use Rattle.frame.specs.Word.{dataOf}
 use Rattle.frame.specs.declared.format.Format.{Format}
-use Rattle.frame.proofs.FormatLaws.{samples-half, first-vote-range, word-bits-range, data-bits-range}
+use Rattle.frame.proofs.FormatLaws.{samples-range, word-bits-range, data-bits-range}
 use Rattle.frame.proofs.WordLaws.{word-lt}
-use Rattle.usart.specs.Baud.{ticks, leftOf, baudOf, loadedBaud}
-use Rattle.usart.specs.Sender.{isVacant, isResting, bufferOf, acknowledgedOf, movedFrom, steppedOf, shiftedOn, senderOf}
-use Rattle.usart.specs.Sampler.{isReceiving, idleOf, castOf, nextBitOf, shiftedOf, decidedOf, votedOf, sampledOf, samplerOf}
+use Rattle.usart.specs.Baud.{ticks, leftOf, baudOf}
+use Rattle.usart.specs.Sender.{isVacant, isResting, bufferOf, acknowledgedOf, movedFrom, steppedOf, shiftedOn}
+use Rattle.usart.specs.Sender.{senderOf}
+use Rattle.usart.specs.Sampler.{isReceiving, idleOf, castOf, nextBitOf, shiftedOf, decidedOf, votedOf, sampledOf}
+use Rattle.usart.specs.Sampler.{samplerOf}
 use Rattle.usart.specs.Queue.{storedIn, takenFrom}
 use Rattle.usart.specs.Receiver.{frameOf, putOf, listenedOf, stopped, enabledOf}
 use Rattle.usart.specs.Unit.{resetUsart, isBusy, clockOf, txcRequested}
-use Rattle.usart.specs.Settings.{codeOf, sizeOf, settingsOf}
+use Rattle.usart.specs.Settings.{settingsOf}
 use Rattle.usart.specs.Read.{readOf}
-use Rattle.usart.specs.Write.{withSender, formattedOf, txcCleared, withU2x, writeA, controlled, withSize, codedB, writeB, isReservedC, formatIn, sizedC, codedC, writeC, timedOf, writeH, transmittedOf, writeOf, vectorOf}
+use Rattle.usart.specs.Write.{withSender, formattedOf, txcCleared, timedOf, transmittedOf, writeOf, vectorOf}
 use Rattle.usart.specs.Event.{settled}
-use Rattle.usart.specs.Valid.{ValidBaud, ValidBuffer, ValidTransmission, ValidShifter, ValidSender, ValidReception, ValidSampler, ValidPlaces, ValidReceiver, Valid}
+use Rattle.usart.specs.Valid.{ValidBaud, ValidBuffer, ValidTransmission, ValidShifter, ValidSender}
+use Rattle.usart.specs.Valid.{ValidReception, ValidSampler, ValidPlaces, ValidReceiver, Valid}
 use Rattle.usart.specs.declared.baud.Clocks.{Clocks}
 use Rattle.usart.specs.declared.baud.Baud.{Baud}
 use Rattle.usart.specs.declared.sample.Sample.{Sample}
@@ -46,24 +49,17 @@ use Rattle.usart.specs.declared.queue.Places.{Places}
 use Rattle.usart.specs.declared.queue.Places.the-variants.{Empty, One, Two}
 use Rattle.usart.specs.declared.queue.Queue.{Queue}
 use Rattle.usart.specs.declared.receiver.Receiver.{Receiver}
-use Rattle.usart.specs.declared.settings.Coded.{Coded}
-use Rattle.usart.specs.declared.settings.Coded.the-variants.{Known, Reserved}
 use Rattle.usart.specs.declared.unit.Usart.{Usart}
 use Rattle.usart.specs.declared.write.Register.{Register}
-use Rattle.usart.specs.declared.write.Register.the-variants.{Ucsr0a, Ucsr0b, Ucsr0c, Ubrr0l, Ubrr0h, Udr0}
 use Rattle.usart.specs.declared.write.Written.{Written}
+use Rattle.usart.proofs.ReadLaws.{each-read}
+use Rattle.usart.proofs.WriteLaws.{Before, inA, inB, inC, Timing, inL, inH, Writes, each-write}
 
--- a sample of bit r: its number is n
-record Sampling (f : Format) (r : Reception) (n : Sample) (q : Reception) : Type 0 where
-  pub word : q .word < 2 ^ wordBits f
-  pub limit : q .bit ≤ wordBits f + 1
-  pub below : q .sample .0 < samples f
-  pub first : 1 ≤ q .sample .0
+-- a sample of bit r is taken, its number is n: but for its votes it is r
+record Sampling (r : Reception) (n : Sample) (q : Reception) : Type 0 where
+  pub word : q .word ≡ r .word
   pub bit : q .bit ≡ r .bit
-  pub sample : q .sample .0 ≡ n .0
-
-under : (s v : ℕ) → s ≤ v + 1 → (s + 1 ≡ v + 2 → ⊥) → s + 1 ≤ v + 1
-under s v h o = ⊎-elim (λ e. absurd (o (omega (arith, e)))) (λ l. omega (arith, l)) (eq-or-lt-of-le h)
+  pub sample : q .sample ≡ n
 
 valid-baud : (b : Baud) → ValidBaud b → ValidBaud (baudOf b)
 unfolding leftOf
@@ -73,12 +69,9 @@ valid-baud b v = record {
 }
 
 module _ (f : Format) where
-  s8 : 8 ≤ samples f
-  s8 = omega (arith, samples-half f, first-vote-range f)
-
   valid-moved : (b : Buffer) (kept txc : Bool) → ValidSender f (movedFrom f b kept txc)
   valid-moved Vacant kept txc = record { buffer = tt; shifter = tt }
-  valid-moved (Full d) kept txc = record { buffer = tt; shifter = record { word = word-lt f d; bit = omega arith; sample = omega (arith, s8) } }
+  valid-moved (Full d) kept txc = record { buffer = tt; shifter = record { word = word-lt f d; bit = omega arith; sample = omega (arith, samples-range f) } }
 
   valid-stepped : (s : Sender) (t : Transmission) → ValidBuffer f (s .buffer) → ValidTransmission f t → ValidSender f (steppedOf f s t)
   unfolding steppedOf
@@ -86,7 +79,7 @@ module _ (f : Format) where
       pick-ind (ValidSender f) (ltb (t .sample .0) (samples f - 1)) _ _
       (λ e. record { buffer = vb; shifter = record { word = vt .word; bit = vt .bit; sample = omega (arith, ltb-true (t .sample .0) (samples f - 1) e) } })
       (λ e. pick-ind (ValidSender f) (ltb (t .bit) (lastBit f)) _ _
-      (λ g. record { buffer = vb; shifter = record { word = vt .word; bit = omega (arith, ltb-true (t .bit) (lastBit f) g); sample = omega (arith, s8) } })
+      (λ g. record { buffer = vb; shifter = record { word = vt .word; bit = omega (arith, ltb-true (t .bit) (lastBit f) g); sample = omega (arith, samples-range f) } })
       (λ g. valid-moved (s .buffer) (s .txc) true))
 
   valid-sender : (s : Sender) → ValidSender f s → ValidSender f (senderOf f s)
@@ -102,30 +95,32 @@ module _ (f : Format) where
   valid-idle true false = record {
     word = pow-pos (wordBits f);
     bit = omega arith;
-    sample = omega (arith, s8);
+    sample = omega (arith, samples-range f);
     start = λ _. lit≤ tt;
     stop = λ z. absurd (omega arith);
   }
   valid-idle false rxd = tt
 
-  -- a sample that has been taken, at the bit of r: all but what its vote decides
-  valid-cast : (r : Reception) (n : Sample) (rxd : Bool) → ValidReception f r → n .0 < samples f → 1 ≤ n .0 → Sampling f r n (castOf f r n rxd)
+  cast-sampling : (r : Reception) (n : Sample) (rxd : Bool) → Sampling r n (castOf f r n rxd)
   unfolding castOf
-  valid-cast r n rxd v h one =
-      let w : (q : Reception) → q .word ≡ r .word → q .bit ≡ r .bit → q .sample .0 ≡ n .0 → Sampling f r n q =
-      λ q ew eb es. record { word = rw ew (v .word); limit = rw eb (v .bit); below = rw es h; first = rw es one; bit = eb; sample = es } in
-      pick-ind (Sampling f r n) (eqb (n .0) (firstVote f)) _ _ (λ e. w _ refl refl refl)
-      (λ e. pick-ind (Sampling f r n) (eqb (n .0) (firstVote f + 1)) _ _ (λ g. w _ refl refl refl) (λ g. w _ refl refl refl))
+  cast-sampling r n rxd =
+      pick-ind (Sampling r n) (eqb (n .0) (firstVote f)) _ _ (λ _. record { word = refl; bit = refl; sample = refl })
+      (λ _. pick-ind (Sampling r n) (eqb (n .0) (firstVote f + 1)) _ _
+      (λ _. record { word = refl; bit = refl; sample = refl })
+      (λ _. record { word = refl; bit = refl; sample = refl }))
 
-  -- .. which is valid where the stop bit's last vote is not yet cast
-  valid-undecided : (r : Reception) (n : Sample) (q : Reception) → Sampling f r n q → (r .bit ≡ wordBits f + 1 → n .0 ≤ firstVote f + 1) → ValidReception f q
-  valid-undecided r n q c k = record {
-    word = c .word;
-    bit = c .limit;
-    sample = c .below;
-    start = λ _. c .first;
-    stop = λ e. rw (c .sample) (k (sym (c .bit) ∙ e));
-  }
+  -- .. and valid where the stop bit's last vote is not yet cast
+  valid-cast : (r : Reception) (n : Sample) (rxd : Bool) → ValidReception f r → 1 ≤ n .0 → n .0 < samples f
+      → (r .bit ≡ wordBits f + 1 → n .0 ≤ firstVote f + 1) → ValidReception f (castOf f r n rxd)
+  valid-cast r n rxd v one h k =
+      let c = cast-sampling r n rxd in
+      record {
+        word = rw (c .word) (v .word);
+        bit = rw (c .bit) (v .bit);
+        sample = rw (c .sample) h;
+        start = λ _. rw (c .sample) one;
+        stop = λ e. rw (c .sample) (k (sym (c .bit) ∙ e));
+      }
 
   -- the last sample of a bit is no sample of the stop bit
   valid-next : (r : Reception) → ValidReception f r → samples f ≤ r .sample .0 + 1 → ValidReception f (nextBitOf f r)
@@ -135,7 +130,7 @@ module _ (f : Format) where
       (λ e. record {
         word = v .word;
         bit = omega (arith, leb-true (r .bit) (wordBits f) e);
-        sample = omega (arith, s8);
+        sample = omega (arith, samples-range f);
         start = λ z. absurd (omega arith);
         stop = λ _. omega arith;
       })
@@ -164,13 +159,13 @@ module _ (f : Format) where
       let n : Sample = record { 0 = r .sample .0 + 1 } in
       pick-ind F (ltb (r .sample .0) (samples f - 1)) _ _
       (λ e.
-      let c = valid-cast r n rxd v (omega (arith, ltb-true (r .sample .0) (samples f - 1) e)) (omega arith) in
+      let cast = valid-cast r n rxd v (omega arith) (omega (arith, ltb-true (r .sample .0) (samples f - 1) e)) in
       pick-ind F (eqb (r .sample .0 + 1) (firstVote f + 2)) _ _
-      (λ g. valid-decided (castOf f r n rxd) rxd _ (λ l. valid-undecided r n (castOf f r n rxd) c (λ z. absurd (omega (arith, l, c .bit, z)))))
+      (λ g. valid-decided (castOf f r n rxd) rxd _ (λ l. cast (λ z. absurd (omega (arith, l, cast-sampling r n rxd .bit, z)))))
       (λ g.
       let o : r .sample .0 + 1 ≡ firstVote f + 2 → ⊥ = eqb-false (r .sample .0 + 1) (firstVote f + 2) g in
-      valid-undecided r n (castOf f r n rxd) c (λ z. under (r .sample .0) (firstVote f) (v .stop z) o)))
-      (λ e. valid-next r v (omega (arith, ltb-false (r .sample .0) (samples f - 1) e, s8)))
+      cast (λ z. omega (arith, v .stop z, o))))
+      (λ e. valid-next r v (omega (arith, ltb-false (r .sample .0) (samples f - 1) e, samples-range f)))
 
   valid-sampler : (p : Sampler) (rxd : Bool) → ValidSampler f p → ValidSampler f (samplerOf f p rxd .sampler)
   unfolding samplerOf
@@ -216,17 +211,13 @@ valid-taken (One a) v = tt
 valid-taken (Two a b) v = v .1
 
 pub valid-read : (u : Usart) (r : Register) → Valid u → Valid (readOf u r .usart)
-valid-read u Ucsr0a v = v
-valid-read u Ucsr0b v = v
-valid-read u Ucsr0c v = v
-valid-read u Ubrr0l v = v
-valid-read u Ubrr0h v = v
-valid-read u Udr0 v = record {
-  baud = v .baud;
-  sender = v .sender;
-  receiver = record { sampler = v .receiver .sampler; places = valid-taken (u .receiver .queue .places) (v .receiver .places) };
-  disabled = λ d. rw (v .disabled d);
-}
+valid-read u r v = each-read Valid u r (λ _. v)
+    (λ _. record {
+      baud = v .baud;
+      sender = v .sender;
+      receiver = record { sampler = v .receiver .sampler; places = valid-taken (u .receiver .queue .places) (v .receiver .places) };
+      disabled = λ d. rw (v .disabled d);
+    })
 
 pub valid-reset : Valid resetUsart
 valid-reset = record {
@@ -249,20 +240,20 @@ not-busy u e = by (isVacant (u .sender .buffer)) (isResting (u .sender .shifter)
     by : (a b : Bool) → isVacant (u .sender .buffer) ≡ a → isResting (u .sender .shifter) ≡ b
         → pick a (pick b (isReceiving (u .receiver .sampler)) true) true ≡ false → Clear u
     by true true ea eb h = record { vacant = ea; resting = eb; idle = h }
-    by true false ea eb h = absurd (let z : _≡_ {A = ℕ} 0 1 = cc in omega arith)
-    by false b ea eb h = absurd (let z : _≡_ {A = ℕ} 0 1 = cc in omega arith)
+    by true false ea eb h = clash refl h
+    by false b ea eb h = clash refl h
 
 any-buffer : (f : Format) (b : Buffer) → isVacant b ≡ true → ValidBuffer f b
 any-buffer f Vacant e = tt
-any-buffer f (Full d) e = absurd (let z : _≡_ {A = ℕ} 0 1 = cc in omega arith)
+any-buffer f (Full d) e = clash e refl
 
 any-shifter : (f : Format) (s : ShiftRegister) → isResting s ≡ true → ValidShifter f s
 any-shifter f Resting e = tt
-any-shifter f (Sending t) e = absurd (let z : _≡_ {A = ℕ} 0 1 = cc in omega arith)
+any-shifter f (Sending t) e = clash e refl
 
 any-sampler : (f : Format) (p : Sampler) → isReceiving p ≡ false → ValidSampler f p
 any-sampler f (Idle last) e = tt
-any-sampler f (Receiving r) e = absurd (let z : _≡_ {A = ℕ} 0 1 = cc in omega arith)
+any-sampler f (Receiving r) e = clash refl e
 
 -- a format is taken only by a clear unit
 valid-formatted : (u v : Usart) (busy : Bool) (g : Format) → Valid u → Valid v → (busy ≡ false → Clear v) → Valid (settled u (formattedOf v busy g))
@@ -285,15 +276,6 @@ valid-acknowledged u v = record {
   disabled = v .disabled;
 }
 
-valid-a : (u : Usart) (x : ℕ) → Valid u → Valid (settled u (writeA u x))
-unfolding writeA txcCleared
-valid-a u x v =
-    pick-ind (λ (w : Written). Valid (settled u w)) (eqb (x % 2) 1) _ _ (λ _. v)
-    (λ _. valid-formatted u (txcCleared u x) (isBusy u) (withU2x (u .format) (eqb (x / 2 % 2) 1)) v
-    (pick-ind Valid (eqb (x / 64 % 2) 1) _ _ (λ _. valid-acknowledged u v) (λ _. v))
-    (λ e. pick-ind Clear (eqb (x / 64 % 2) 1) _ _
-    (λ _. record { vacant = not-busy u e .vacant; resting = not-busy u e .resting; idle = not-busy u e .idle }) (λ _. not-busy u e)))
-
 valid-enabled : (f : Format) (before after : Bool) (r : Receiver) → ValidReceiver f r → ValidReceiver f (enabledOf before after r)
 unfolding enabledOf
 valid-enabled f before after r v =
@@ -311,34 +293,29 @@ idle-enabled before after r e =
     let F : Receiver → Type 0 = λ q. isReceiving (q .sampler) ≡ false in
     pick-ind F before _ _ (λ _. pick-ind F after _ _ (λ _. e) (λ _. refl)) (λ _. refl)
 
-valid-b : (u : Usart) (x : ℕ) → Valid u → Valid (settled u (writeB u x))
-valid-b u x v = by (sizeOf (x / 4 % 2 * 4 + codeOf (u .format .size) % 4))
-  where
-    by : (k : Coded) → Valid (settled u (codedB u x k))
-    by Reserved = v
-    by (Known z) =
-        valid-formatted u (controlled u x) (isBusy u) (withSize (u .format) z) v
-        (record {
-          baud = v .baud;
-          sender = v .sender;
-          receiver = valid-enabled (u .format) (u .control .rxen) (eqb (x / 16 % 2) 1) (u .receiver) (v .receiver);
-          disabled = disabled-stopped (u .control .rxen) (eqb (x / 16 % 2) 1) (u .receiver);
-        })
-        (λ e. record {
-          vacant = not-busy u e .vacant;
-          resting = not-busy u e .resting;
-          idle = idle-enabled (u .control .rxen) (eqb (x / 16 % 2) 1) (u .receiver) (not-busy u e .idle);
-        })
+-- what a write to A, B or C leaves, before the format is set
+module _ (u : Usart) (x : ℕ) (v : Valid u) where
+  valid-before : {w : Usart} → Before u x w → Valid w
+  unfolding txcCleared
+  valid-before inA = pick-ind Valid (isSet x 64) _ _ (λ _. valid-acknowledged u v) (λ _. v)
+  valid-before inB = record {
+    baud = v .baud;
+    sender = v .sender;
+    receiver = valid-enabled (u .format) (u .control .rxen) (isSet x 16) (u .receiver) (v .receiver);
+    disabled = disabled-stopped (u .control .rxen) (isSet x 16) (u .receiver);
+  }
+  valid-before inC = v
 
-valid-c : (u : Usart) (x : ℕ) → Valid u → Valid (settled u (writeC u x))
-unfolding writeC sizedC
-valid-c u x v = pick-ind (λ (w : Written). Valid (settled u w)) (isReservedC x) _ _ (λ _. v) (λ _. by (sizeOf (codeOf (u .format .size) / 4 * 4 + x / 2 % 4)))
-  where
-    by : (k : Coded) → Valid (settled u (codedC u x k))
-    by Reserved = v
-    by (Known z) =
-        pick-ind (λ (w : Written). Valid (settled u w)) (eqb (x / 64) 0) _ _
-        (λ _. valid-formatted u u (isBusy u) (formatIn u z x) v v (not-busy u)) (λ _. v)
+  clear-before : {w : Usart} → Clear u → Before u x w → Clear w
+  unfolding txcCleared
+  clear-before c inA =
+      pick-ind Clear (isSet x 64) _ _ (λ _. record { vacant = c .vacant; resting = c .resting; idle = c .idle }) (λ _. c)
+  clear-before c inB = record {
+    vacant = c .vacant;
+    resting = c .resting;
+    idle = idle-enabled (u .control .rxen) (isSet x 16) (u .receiver) (c .idle);
+  }
+  clear-before c inC = c
 
 valid-timed : (u : Usart) (b : Baud) → Valid u → ValidBaud b → Valid (settled u (timedOf u b))
 unfolding timedOf
@@ -346,11 +323,10 @@ valid-timed u b v vb =
     pick-ind (λ (w : Written). Valid (settled u w)) (isBusy u) _ _ (λ _. v)
     (λ _. record { baud = vb; sender = v .sender; receiver = v .receiver; disabled = v .disabled })
 
-valid-h : (u : Usart) (x : ℕ) → Valid u → Valid (settled u (writeH u x))
-unfolding writeH
-valid-h u x v =
-    pick-ind (λ (w : Written). Valid (settled u w)) (leb 16 x) _ _ (λ _. v)
-    (λ e. valid-timed u _ v (record { ubrr = omega (arith, leb-false 16 x e); left = v .baud .left }))
+valid-timing : (u : Usart) (x : ℕ) {b : Baud} → x < 256 → ValidBaud (u .baud) → Timing u x b → ValidBaud b
+valid-timing u x h v inL =
+    let n : u .baud .ubrr / 256 * 256 + x < 4096 = omega (arith, v .ubrr) in record { ubrr = n; left = n }
+valid-timing u x h v (inH l) = record { ubrr = omega arith; left = v .left }
 
 valid-d : (u : Usart) (x : ℕ) → Valid u → Valid (transmittedOf u x)
 unfolding transmittedOf
@@ -370,14 +346,15 @@ valid-d u x v =
 
 -- a written value is a byte
 pub valid-write : (u : Usart) (r : Register) (x : ℕ) → x < 256 → Valid u → Valid (settled u (writeOf u r x))
-valid-write u Ucsr0a x h v = valid-a u x v
-valid-write u Ucsr0b x h v = valid-b u x v
-valid-write u Ucsr0c x h v = valid-c u x v
-valid-write u Ubrr0l x h v =
-    let b : u .baud .ubrr / 256 * 256 + x < 4096 = omega (arith, v .baud .ubrr) in
-    valid-timed u (loadedBaud (u .baud .ubrr / 256 * 256 + x)) v (record { ubrr = b; left = b })
-valid-write u Ubrr0h x h v = valid-h u x v
-valid-write u Udr0 x h v = valid-d u x v
+valid-write u r x h v = each-write {P = λ w. Valid (settled u w)} u x by r
+  where
+    by : Writes (λ w. Valid (settled u w)) u x
+    by = record {
+      refused = λ _. v;
+      formatted = λ w f p. valid-formatted u w (isBusy u) f v (valid-before u x v p) (λ e. clear-before u x v (not-busy u e) p);
+      timed = λ b p. valid-timed u b v (valid-timing u x h (v .baud) p);
+      sent = valid-d u x v;
+    }
 
 pub valid-vector : (u : Usart) → Valid u → Valid (settled u (vectorOf u))
 unfolding vectorOf

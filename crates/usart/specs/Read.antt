@@ -1,7 +1,6 @@
 -- What the serial registers read (document 01, 'Receiver'; bit places by source 004).
 use Prim.Native.Nat.{ℕ, _+_, _*_, _/_, _%_}
 use mathlib.Core.Bool.{not}
-use lib.Dec.{eqb}
 use Rattle.choice.specs.Bit.{isSet}
 use Rattle.choice.specs.Pick.{digit}
 use Rattle.usart.specs.Sender.{isVacant}

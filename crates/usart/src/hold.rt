@@ -27,7 +27,8 @@ pub struct ReceiverPassed {
 }
 
 impl Baud {
-    // The counter falls to 0 from wherever it stands, also above UBRR; from there on it is loaded every UBRR + 1 clocks.
+    // The counter falls to 0 from wherever it stands, also above UBRR; from there on it is loaded every UBRR + 1
+    // clocks.
     fn passed(self, n: Span) -> Baud
         ensures { λ r. ⌜ r ≡ passedBaud self (n .0) ⌝ }
     {

@@ -1,4 +1,4 @@
-use mathlib.Core.Path.{_≡_, ap, sym, _∙_}
+use mathlib.Core.Path.{sym}
 use Rattle.usart.proofs.HoldingLaws.{held-parts}
 use borrow.Author.Needs.{needs}
 use Rattle.usart.proofs.unit.Usart.hold.Statement.{statement}
