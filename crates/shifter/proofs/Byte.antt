@@ -1,18 +1,19 @@
--- Over a byte's 16 edges the eight bits leave in order, and the eight sampled ones take their place, in order: once over phase and order.
+-- Over a byte's 16 edges the eight bits leave in order, and the eight sampled ones take their place, in order: once
+-- over phase and order.
 use Prim.Native.Nat.{ℕ, zero, suc, _+_, _*_, _%_, _<_, _≤_}
 use mathlib.Core.Bool.{Bool, true, false}
 use mathlib.Core.List.{List, [], _∷_, _++_, append-assoc, append-nil}
 use mathlib.Core.Path.{_≡_, refl, sym, ap, ap₂, _∙_}
 use native.Mathlib.Omega.{arith}
 use lib.Dec.{eqb}
-use lib.ListN.{length, take, drop}
-use lib.Seq.{take-append-le, drop-append-le}
+use lib.ListN.{length, take, drop, drop-of-length-le}
+use lib.Seq.{take-all, take-append-le, drop-append-le}
 use borrow.Author.Tests.{eq-eqb, ne-eqb, lt-ltb}
 use Rattle.choice.specs.Pick.{pick}
-use Rattle.choice.proofs.Picks.{pick-true, pick-ind}
+use Rattle.choice.proofs.Picks.{pick-true, pick-ind, clash}
 use Rattle.shifter.specs.Order.{outBit, shiftedIn, bitsOf}
 use Rattle.shifter.specs.Edge.{isSampling, isPutting, edgeOf}
-use Rattle.shifter.specs.Byte.{afterEdges, sampledAt, shownAt, Exchanges}
+use Rattle.shifter.specs.Byte.{afterEdges, sampledAt, shownAt, Presented, WholeByte}
 use Rattle.shifter.specs.declared.Mode.{Mode}
 use Rattle.shifter.specs.declared.Shifter.{Shifter}
 use Rattle.shifter.proofs.Laws.{rest, out-first, shifted-last, shifted-lt}
@@ -59,11 +60,8 @@ module _ (m : Mode) (r : Shifter) (k : ℕ) (i : Bool) where
   unfolding edgeOf
   kept h = rw h (pick-ind (λ (x : Shifter). x .shift ≡ r .shift) (isPutting (m .cpha) k) _ _ (λ _. refl) (λ _. refl))
 
--- with CPHA 0 the first bit is out before edge 1
-abbrev pub Presented : Mode → Shifter → Type 0
-Presented m r = m .cpha ≡ false → r .out ≡ outBit (m .dord) (r .shift)
-
--- what a pair of edges does, the first of them odd: the bit x leaves, shown at the sampling edge, and the sampled one, y, enters
+-- what a pair of edges does, the first of them odd: the bit x leaves, shown at the sampling edge, and the sampled one,
+-- y, enters
 record Paired (m : Mode) (r : Shifter) (k : ℕ) (a b : Bool) : Type 0 where
   byte : edgeOf m (edgeOf m r (k + 1) a) (k + 1 + 1) b .shift < 256
   bits : bitsOf (m .dord) (edgeOf m (edgeOf m r (k + 1) a) (k + 1 + 1) b .shift) ≡ rest (bitsOf (m .dord) (r .shift)) ++ (pick (m .cpha) b a ∷ [])
@@ -85,7 +83,7 @@ paired m r k a b h e p true c =
       bits = ap (λ (x : Shifter). bitsOf (m .dord) (x .shift)) e2 ∙ shifted-last (m .dord) (r .shift) b h ∙ ap (λ (x : Bool). rest (bitsOf (m .dord) (r .shift)) ++ (x ∷ [])) (sym y);
       shown = λ is. rw (o1, o2) (ap (λ (x : Shifter). x .out ∷ shownAt m (edgeOf m (edgeOf m r (k + 1) a) (k + 1 + 1) b) (k + 1 + 1) is) e1);
       sampled = λ is. rw (o1, o2, y);
-      presented = λ _ q. absurd (let z : _≡_ {A = ℕ} 0 1 = cc in omega arith);
+      presented = λ _ q. clash c q;
     }
 paired m r k a b h e p false c =
     let o1 : isSampling (m .cpha) (k + 1) ≡ true = sampling-odd (m .cpha) (k + 1) (omega arith) ∙ ap (λ (x : Bool). pick x false true) c in
@@ -146,25 +144,13 @@ exchanged m r k (suc n) (a ∷ b ∷ is) l hk h8 hb e p =
       byte = x .byte;
     }
 
-take-all : (n : ℕ) (bs : List Bool) → length bs ≡ n → take n bs ≡ bs
-take-all zero [] h = refl
-take-all zero (b ∷ bs) h = absurd (omega arith)
-take-all (suc n) [] h = absurd (omega arith)
-take-all (suc n) (b ∷ bs) h = ap (λ (z : List Bool). b ∷ z) (take-all n bs (omega arith))
-
-drop-all : (n : ℕ) (bs : List Bool) → length bs ≡ n → drop n bs ≡ []
-drop-all zero [] h = refl
-drop-all zero (b ∷ bs) h = absurd (omega arith)
-drop-all (suc n) [] h = absurd (omega arith)
-drop-all (suc n) (b ∷ bs) h = drop-all n bs (omega arith)
-
 -- with CPHA 0 the first bit must be out before edge 1
-pub whole-byte : (m : Mode) (r : Shifter) (is : List Bool) → length is ≡ 16 → r .shift < 256 → Presented m r → Exchanges m r is
+pub whole-byte : (m : Mode) (r : Shifter) (is : List Bool) → length is ≡ 16 → r .shift < 256 → Presented m r → WholeByte m r is
 whole-byte m r is l h p =
     let x = exchanged m r 0 8 is l (omega arith) (omega arith) h refl (λ _. p) in
     let e : length (bitsOf (m .dord) (r .shift)) ≡ 8 = bits-length (m .dord) (r .shift) in
     record {
-      shown = x .shown ∙ take-all 8 (bitsOf (m .dord) (r .shift)) e;
-      taken = x .bits ∙ ap (λ (z : List Bool). z ++ sampledAt (m .cpha) 0 is) (drop-all 8 (bitsOf (m .dord) (r .shift)) e);
+      shown = x .shown ∙ take-all 8 (bitsOf (m .dord) (r .shift)) (omega arith);
+      taken = x .bits ∙ ap (λ (z : List Bool). z ++ sampledAt (m .cpha) 0 is) (drop-of-length-le (bitsOf (m .dord) (r .shift)) {i = 8} (omega arith));
       byte = x .byte;
     }

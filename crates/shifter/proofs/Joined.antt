@@ -6,11 +6,11 @@ use mathlib.Core.Path.{_≡_, refl, sym, ap, ap₂, _∙_}
 use lib.ListN.{length}
 use Rattle.choice.specs.Pick.{pick}
 use Rattle.shifter.specs.Edge.{isSampling}
-use Rattle.shifter.specs.Byte.{afterEdges, sampledAt, shownAt, Exchanges, Joined, joinedEdge, joinedEdges, Swaps}
+use Rattle.shifter.specs.Byte.{afterEdges, sampledAt, shownAt, Presented, WholeByte, Joined, joinedEdge, joinedEdges, Swaps}
 use Rattle.shifter.specs.declared.Mode.{Mode}
 use Rattle.shifter.specs.declared.Shifter.{Shifter}
 use Rattle.shifter.proofs.Laws.{bits-injective}
-use Rattle.shifter.proofs.Byte.{Presented, whole-byte, out-kept}
+use Rattle.shifter.proofs.Byte.{whole-byte, out-kept}
 
 module _ (m : Mode) where
   -- what each sees at its edges
@@ -56,8 +56,8 @@ module _ (m : Mode) where
 -- with CPHA 0 both first bits must be out before edge 1
 pub swaps : (m : Mode) (j : Joined) → j .master .shift < 256 → j .slave .shift < 256 → Presented m (j .master) → Presented m (j .slave) → Swaps m j
 swaps m j hm hs pm ps =
-    let a : Exchanges m (j .master) (masterSees m j 0 16) = whole-byte m (j .master) (masterSees m j 0 16) (master-length m j 0 16) hm pm in
-    let b : Exchanges m (j .slave) (slaveSees m j 0 16) = whole-byte m (j .slave) (slaveSees m j 0 16) (slave-length m j 0 16) hs ps in
+    let a : WholeByte m (j .master) (masterSees m j 0 16) = whole-byte m (j .master) (masterSees m j 0 16) (master-length m j 0 16) hm pm in
+    let b : WholeByte m (j .slave) (slaveSees m j 0 16) = whole-byte m (j .slave) (slaveSees m j 0 16) (slave-length m j 0 16) hs ps in
     let am = master-after m j 0 16 in
     let bm = slave-after m j 0 16 in
     record {

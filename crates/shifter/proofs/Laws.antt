@@ -7,10 +7,14 @@ use native.Mathlib.Nat.{div-one, div-eq-of-lt, div-div-eq-div-mul}
 use native.Mathlib.Omega.{arith}
 use lib.Dec.{eqb}
 use lib.ListN.{getD}
-use borrow.Author.Tests.{eqb-true, eqb-false}
 use Rattle.choice.specs.Pick.{digit}
-use Rattle.choice.proofs.Digits.{digit-le, digit-is}
-use Rattle.shifter.specs.Order.{outBit, shiftedIn, bitOf, bitsOf}
+use Rattle.choice.specs.Bit.{isSet}
+use Rattle.choice.proofs.Digits.{digit-le, digit-is, digit-odd}
+use Rattle.shifter.specs.Order.{outBit, shiftedIn, bitsOf}
+
+-- the low bit is set in odd numbers
+pub odd-set : (x : ℕ) → eqb (x % 2) 1 ≡ isSet x 1
+odd-set x = rw (div-one x)
 
 -- the bits of a list but the first
 abbrev pub rest : List Bool → List Bool
@@ -18,16 +22,16 @@ rest [] = []
 rest (b ∷ bs) = bs
 
 -- a bit of one number is a bit of another, or b
-moved : (y x w v : ℕ) → y / w % 2 ≡ x / v % 2 → bitOf y w ≡ bitOf x v
+moved : (y x w v : ℕ) → y / w % 2 ≡ x / v % 2 → isSet y w ≡ isSet x v
 moved y x w v e = ap (λ (n : ℕ). eqb n 1) e
 
-entered : (y w : ℕ) (b : Bool) → y / w % 2 ≡ digit b → bitOf y w ≡ b
+entered : (y w : ℕ) (b : Bool) → y / w % 2 ≡ digit b → isSet y w ≡ b
 entered y w b e = ap (λ (n : ℕ). eqb n 1) e ∙ digit-is b
 
 -- the bit that leaves is the first
 pub out-first : (dord : Bool) (x : ℕ) → bitsOf dord x ≡ outBit dord x ∷ rest (bitsOf dord x)
 unfolding bitsOf outBit
-out-first true x = rw (div-one x)
+out-first true x = refl
 out-first false x = refl
 
 -- lists of eight are equal by their elements
@@ -55,30 +59,21 @@ unfolding shiftedIn
 shifted-lt true x b h = let d = digit-le b in omega arith
 shifted-lt false x b h = let d = digit-le b in omega arith
 
-both-zero : (a b : ℕ) → (a % 2 ≡ 1 → ⊥) → (b % 2 ≡ 1 → ⊥) → a % 2 ≡ b % 2
-both-zero a b na nb = omega arith
-
--- a byte is known by its bits
-same-bit : (x y w : ℕ) → bitOf x w ≡ bitOf y w → x / w % 2 ≡ y / w % 2
-same-bit x y w e = by (bitOf y w) refl
-  where
-    by : (t : Bool) → bitOf y w ≡ t → x / w % 2 ≡ y / w % 2
-    by true h = eqb-true (x / w % 2) 1 (e ∙ h) ∙ sym (eqb-true (y / w % 2) 1 h)
-    by false h = both-zero (x / w) (y / w) (eqb-false (x / w % 2) 1 (e ∙ h)) (eqb-false (y / w % 2) 1 h)
-
--- the bit at place n of a list
-abbrev bitAt : ℕ → List Bool → Bool
-bitAt n bs = getD bs n false
+-- a byte is known by its bits: the bit at place n of a list
+abbrev nth : ℕ → List Bool → Bool
+nth n bs = getD bs n false
 
 -- two numbers are the same if their halves and their last bits are
-halves : (x y w : ℕ) → x / (w * 2) ≡ y / (w * 2) → bitOf x w ≡ bitOf y w → x / w ≡ y / w
-halves x y w h e = by (x / w) (y / w) (div-div-eq-div-mul x w 2 ∙ h ∙ sym (div-div-eq-div-mul y w 2)) (same-bit x y w e)
+halves : (x y w : ℕ) → x / (w * 2) ≡ y / (w * 2) → isSet x w ≡ isSet y w → x / w ≡ y / w
+halves x y w h e =
+    by (x / w) (y / w) (div-div-eq-div-mul x w 2 ∙ h ∙ sym (div-div-eq-div-mul y w 2))
+    (sym (digit-odd (x / w)) ∙ ap digit e ∙ digit-odd (y / w))
   where
     by : (a b : ℕ) → a / 2 ≡ b / 2 → a % 2 ≡ b % 2 → a ≡ b
     by a b p q = omega arith
 
-same-byte : (x y : ℕ) → x < 256 → y < 256 → bitOf x 1 ≡ bitOf y 1 → bitOf x 2 ≡ bitOf y 2 → bitOf x 4 ≡ bitOf y 4 → bitOf x 8 ≡ bitOf y 8
-    → bitOf x 16 ≡ bitOf y 16 → bitOf x 32 ≡ bitOf y 32 → bitOf x 64 ≡ bitOf y 64 → bitOf x 128 ≡ bitOf y 128 → x ≡ y
+same-byte : (x y : ℕ) → x < 256 → y < 256 → isSet x 1 ≡ isSet y 1 → isSet x 2 ≡ isSet y 2 → isSet x 4 ≡ isSet y 4 → isSet x 8 ≡ isSet y 8
+    → isSet x 16 ≡ isSet y 16 → isSet x 32 ≡ isSet y 32 → isSet x 64 ≡ isSet y 64 → isSet x 128 ≡ isSet y 128 → x ≡ y
 same-byte x y hx hy a b c d e f g h =
     let top : x / 256 ≡ y / 256 = div-eq-of-lt hx ∙ sym (div-eq-of-lt hy) in
     sym (div-one x)
@@ -88,6 +83,6 @@ same-byte x y hx hy a b c d e f g h =
 pub bits-injective : (dord : Bool) (x y : ℕ) → x < 256 → y < 256 → bitsOf dord x ≡ bitsOf dord y → x ≡ y
 unfolding bitsOf
 bits-injective true x y hx hy e =
-    same-byte x y hx hy (ap (bitAt 0) e) (ap (bitAt 1) e) (ap (bitAt 2) e) (ap (bitAt 3) e) (ap (bitAt 4) e) (ap (bitAt 5) e) (ap (bitAt 6) e) (ap (bitAt 7) e)
+    same-byte x y hx hy (ap (nth 0) e) (ap (nth 1) e) (ap (nth 2) e) (ap (nth 3) e) (ap (nth 4) e) (ap (nth 5) e) (ap (nth 6) e) (ap (nth 7) e)
 bits-injective false x y hx hy e =
-    same-byte x y hx hy (ap (bitAt 7) e) (ap (bitAt 6) e) (ap (bitAt 5) e) (ap (bitAt 4) e) (ap (bitAt 3) e) (ap (bitAt 2) e) (ap (bitAt 1) e) (ap (bitAt 0) e)
+    same-byte x y hx hy (ap (nth 7) e) (ap (nth 6) e) (ap (nth 5) e) (ap (nth 4) e) (ap (nth 3) e) (ap (nth 2) e) (ap (nth 1) e) (ap (nth 0) e)

@@ -1,3 +1,5 @@
 pub mod Laws
 pub mod Byte
 pub mod Joined
+pub mod ExchangeLaws
+pub mod Carried

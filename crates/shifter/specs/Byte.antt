@@ -1,10 +1,10 @@
 -- A whole byte: 16 edges, what is sampled at them and what is shown.
 use Prim.Native.Nat.{ℕ, zero, suc, _+_, _<_}
-use mathlib.Core.Bool.{Bool}
+use mathlib.Core.Bool.{Bool, false}
 use mathlib.Core.List.{List, [], _∷_}
 use mathlib.Core.Path.{_≡_}
 use Rattle.choice.specs.Pick.{pick}
-use Rattle.shifter.specs.Order.{bitsOf}
+use Rattle.shifter.specs.Order.{outBit, bitsOf}
 use Rattle.shifter.specs.Edge.{isSampling, edgeOf}
 use Rattle.shifter.specs.declared.Mode.{Mode}
 use Rattle.shifter.specs.declared.Shifter.{Shifter}
@@ -17,17 +17,24 @@ afterEdges m r k (i ∷ is) = afterEdges m (edgeOf m r (k + 1) i) (k + 1) is
 -- the levels of the input at the sampling edges, in order
 abbrev pub sampledAt : Bool → ℕ → List Bool → List Bool
 sampledAt cpha k [] = []
-sampledAt cpha k (i ∷ is) = pick (isSampling cpha (k + 1)) (i ∷ sampledAt cpha (k + 1) is) (sampledAt cpha (k + 1) is)
+sampledAt cpha k (i ∷ is) =
+    let later : List Bool = sampledAt cpha (k + 1) is in
+    pick (isSampling cpha (k + 1)) (i ∷ later) later
 
 -- the bits that are out at the sampling edges, as the other side samples them
 abbrev pub shownAt : Mode → Shifter → ℕ → List Bool → List Bool
 shownAt m r k [] = []
 shownAt m r k (i ∷ is) =
-    pick (isSampling (m .cpha) (k + 1)) (r .out ∷ shownAt m (edgeOf m r (k + 1) i) (k + 1) is) (shownAt m (edgeOf m r (k + 1) i) (k + 1) is)
+    let later : List Bool = shownAt m (edgeOf m r (k + 1) i) (k + 1) is in
+    pick (isSampling (m .cpha) (k + 1)) (r .out ∷ later) later
 
--- a whole byte goes out and a whole one comes in: at the sampling edges the bits of the register are out, in order, and after edge 16 the
--- register holds the sampled levels, in order
-pub record Exchanges (m : Mode) (r : Shifter) (is : List Bool) : Type 0 where
+-- with CPHA 0 the first bit is out before edge 1
+abbrev pub Presented : Mode → Shifter → Type 0
+Presented m r = m .cpha ≡ false → r .out ≡ outBit (m .dord) (r .shift)
+
+-- a whole byte goes out and a whole one comes in: at the sampling edges the bits of the register are out, in order, and
+-- after edge 16 the register holds the sampled levels, in order
+pub record WholeByte (m : Mode) (r : Shifter) (is : List Bool) : Type 0 where
   pub shown : shownAt m r 0 is ≡ bitsOf (m .dord) (r .shift)
   pub taken : bitsOf (m .dord) (afterEdges m r 0 is .shift) ≡ sampledAt (m .cpha) 0 is
   pub byte : afterEdges m r 0 is .shift < 256

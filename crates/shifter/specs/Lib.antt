@@ -1,3 +1,5 @@
 pub mod Order
 pub mod Edge
+pub mod Exchange
 pub mod Byte
+pub mod Carrier

@@ -6,32 +6,32 @@ use native.Mathlib.Omega.{arith}
 use lib.Dec.{eqb}
 use borrow.Author.Tests.{eqb-true, eqb-false, eq-eqb, ne-eqb}
 use Rattle.choice.specs.Pick.{pick, digit}
+use Rattle.choice.specs.Bit.{isSet}
 use Rattle.choice.proofs.Picks.{split}
-use Rattle.spi.specs.Control.{isEnabled, isMaster, drives}
-use Rattle.spi.specs.Unit.{differs, sckOf, pinOf, outputOf}
-use Rattle.spi.specs.Clock.{isEdge}
-use Rattle.spi.specs.Wired.{wire}
+use Rattle.spi.specs.Unit.{sckOf, pinOf, outputOf}
+use Rattle.spi.specs.Means.{differs}
+use Rattle.spi.specs.Clock.{isSckEdge}
+use Rattle.spi.specs.Wired.{Linked}
+use Rattle.spi.specs.declared.control.Control.{Control}
 use Rattle.spi.specs.declared.unit.Spi.{Spi}
 
 -- what the output bytes show
-mosi-sck : (a b : Bool)
-    → (wire ((16 + digit a) * 2 + (16 + digit b) * 8) 2 ≡ a) × (wire ((16 + digit a) * 2 + (16 + digit b) * 8) 8 ≡ b)
+mosi-sck : (a b : Bool) → let o : ℕ = (16 + digit a) * 2 + (16 + digit b) * 8 in (isSet o 2 ≡ a) × (isSet o 8 ≡ b)
 mosi-sck true true = (refl, refl)
 mosi-sck true false = (refl, refl)
 mosi-sck false true = (refl, refl)
 mosi-sck false false = (refl, refl)
 
-pub master-shown : (s : Spi) → isEnabled (s .control) ≡ true → isMaster (s .control) ≡ true → drives (s .control) 8 ≡ true → drives (s .control) 32 ≡ true
-    → (wire (outputOf s true) 2 ≡ s .pins .mosi) × (wire (outputOf s true) 8 ≡ sckOf s)
+pub master-shown : (s : Spi) (b : Control) → Linked (s .control) b
+    → (isSet (outputOf s true) 2 ≡ s .pins .mosi) × (isSet (outputOf s true) 8 ≡ sckOf s)
 unfolding outputOf pinOf
-master-shown s on m d8 d32 = rw (on, m, d8, d32) (mosi-sck (s .pins .mosi) (sckOf s))
+master-shown s b w = rw (w .enabledMaster, w .master, w .mosi, w .sck) (mosi-sck (s .pins .mosi) (sckOf s))
 
-pub slave-shown : (s : Spi) → isEnabled (s .control) ≡ true → isMaster (s .control) ≡ false → drives (s .control) 16 ≡ true
-    → wire (outputOf s false) 4 ≡ s .pins .miso
+pub slave-shown : (s : Spi) (a : Control) → Linked a (s .control) → isSet (outputOf s false) 4 ≡ s .pins .miso
 unfolding outputOf pinOf
-slave-shown s on m d16 = rw (on, m, d16) (by (s .pins .miso))
+slave-shown s a w = rw (w .enabledSlave, w .slave, w .miso) (by (s .pins .miso))
   where
-    by : (a : Bool) → wire ((16 + digit a) * 4) 4 ≡ a
+    by : (a : Bool) → isSet ((16 + digit a) * 4) 4 ≡ a
     by true = refl
     by false = refl
 
@@ -39,8 +39,8 @@ slave-shown s on m d16 = rw (on, m, d16) (by (s .pins .miso))
 abbrev pub levelAt : Bool → ℕ → Bool
 levelAt cpol k = differs (eqb (k % 2) 1) cpol
 
-pub no-edge : (cpol : Bool) (k : ℕ) (sck : Bool) → isEdge cpol k sck sck ≡ false
-unfolding isEdge differs
+pub no-edge : (cpol : Bool) (k : ℕ) (sck : Bool) → isSckEdge cpol k sck sck ≡ false
+unfolding isSckEdge differs
 no-edge cpol k true = refl
 no-edge cpol k false = refl
 
@@ -60,6 +60,6 @@ next-odd k =
     split (eqb (k % 2) 1) (λ e. rw e (ne-eqb ((k + 1) % 2) 1 (λ q. omega (arith, eqb-true (k % 2) 1 e))))
     (λ e. rw e (eq-eqb ((k + 1) % 2) 1 (omega (arith, eqb-false (k % 2) 1 e))))
 
-pub level-turns : (cpol : Bool) (k : ℕ) → isEdge cpol k (levelAt cpol k) (levelAt cpol (k + 1)) ≡ true
-unfolding isEdge
+pub level-turns : (cpol : Bool) (k : ℕ) → isSckEdge cpol k (levelAt cpol k) (levelAt cpol (k + 1)) ≡ true
+unfolding isSckEdge
 level-turns cpol k = rw (next-odd k) (turned cpol (eqb (k % 2) 1) (eqb k 0) (λ e. ne-eqb k 0 (λ q. omega (arith, eqb-true (k % 2) 1 e))))

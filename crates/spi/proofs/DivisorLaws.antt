@@ -1,4 +1,5 @@
--- The rule of the divisor table, computed once over it: each divisor is twice a half of 1 to 64 clocks, and SPI2X doubles the rate.
+-- The rule of the divisor table, computed once over it: each divisor is twice a half of 1 to 64 clocks, and SPI2X
+-- doubles the rate.
 use Prim.Native.Nat.{ℕ, zero, suc, _+_, _*_, _/_, _%_, _≤_, _<_}
 use mathlib.Core.Bool.{Bool, true, false}
 use mathlib.Core.List.{List, [], _∷_}

@@ -1,13 +1,15 @@
--- What drops a byte under way, and that a dropped one is gone: the next begins anew, with the shift register as it stands.
+-- What drops a byte under way, and that a dropped one is gone: the next begins anew, with the shift register as it
+-- stands.
 use Prim.Native.Nat.{ℕ, _/_, _%_, _*_, _+_}
 use mathlib.Core.Bool.{true, false}
 use mathlib.Core.Path.{_≡_, refl, sym, subst}
 use native.Mathlib.Omega.{arith}
 use borrow.Author.Tests.{ne-eqb}
-use Rattle.spi.specs.Control.{isEnabled, isMaster, isInput}
+use Rattle.spi.specs.Control.{isEnabled, isMaster, isModeFault}
 use Rattle.spi.specs.Flag.{isUp}
 use Rattle.spi.specs.Transfer.{isUnderWay, droppedOf}
-use Rattle.spi.specs.Clock.{withSck, withTransfer, faultOf, slaveOf, steppedOf, clockOf}
+use Rattle.spi.specs.Means.{withSck, withTransfer}
+use Rattle.spi.specs.Clock.{faultOf, slaveOf, steppedOf, clockOf}
 use Rattle.spi.specs.declared.clock.Levels.{Levels}
 use Rattle.spi.specs.declared.unit.Spi.{Spi}
 use Rattle.spi.proofs.Progress.{raised-up}
@@ -28,12 +30,12 @@ module _ (s : Spi) (l : Levels) (on : isEnabled (s .control) ≡ true) where
       let w : steppedOf s l ≡ withTransfer s (droppedOf (s .transfer)) = rw (on, m, h) refl in
       subst (λ (t : Spi). Dropped s (withSck t (l .sck))) (sym w) (record { idle = refl; shift = refl; received = refl; mosi = refl; miso = refl })
 
-  -- SS an input and low at a master
-  pub faulted : isMaster (s .control) ≡ true → isInput (s .control) ≡ true → l .ss ≡ false
+  -- a mode fault
+  pub faulted : isMaster (s .control) ≡ true → isModeFault (s .control) (l .ss) ≡ true
       → Dropped s (clockOf s l) × ((isMaster (clockOf s l .control) ≡ false) × (isUp (clockOf s l .flags .spif) ≡ true))
   unfolding steppedOf isUnderWay
-  faulted m i h =
-      let w : steppedOf s l ≡ faultOf s = rw (on, m, i, h) refl in
+  faulted m h =
+      let w : steppedOf s l ≡ faultOf s = rw (on, m, h) refl in
       let n : ℕ = s .control .spcr in
       subst
       (λ (t : Spi). Dropped s (withSck t (l .sck)) × ((isMaster (t .control) ≡ false) × (isUp (t .flags .spif) ≡ true)))

@@ -1,10 +1,8 @@
 -- What leaves a byte under way alone changes the flags at most, and never sets SPIF.
 use Prim.Native.Nat.{ℕ}
-use mathlib.Core.Bool.{Bool, true, false}
+use mathlib.Core.Bool.{true, false}
 use mathlib.Core.Path.{_≡_, refl, sym, subst, _∙_}
-use native.Mathlib.Omega.{arith}
-use Rattle.choice.specs.Pick.{pick}
-use Rattle.choice.proofs.Picks.{pick-ind}
+use Rattle.choice.proofs.Picks.{pick-ind, split, clash}
 use Rattle.spi.specs.Flag.{isUp, armedOf, clearedOf}
 use Rattle.spi.specs.Unit.{isRequested}
 use Rattle.spi.specs.Register.{settled, collided, loadedOf, accessed, writeOf, readOf, vectorOf}
@@ -42,25 +40,22 @@ cleared-down Set h = h
 cleared-down Armed h = refl
 
 refused-same : (s : Spi) (w : Written) → isRefused w ≡ true → Same s (settled s w)
-refused-same s (Done t) h = absurd (let z : _≡_ {A = ℕ} 0 1 = cc in omega arith)
+refused-same s (Done t) h = clash h refl
 refused-same s (Refused r) h = same s
 
 -- a write that is neither refused nor a collision does not belong here
 collision-same : (s : Spi) (r : Register) (v : ℕ) → isCollision s r ≡ true → Same s (settled s (writeOf s r v))
 unfolding loadedOf
-collision-same s Spcr v h = absurd (let z : _≡_ {A = ℕ} 0 1 = cc in omega arith)
-collision-same s Spsr v h = absurd (let z : _≡_ {A = ℕ} 0 1 = cc in omega arith)
+collision-same s Spcr v h = clash h refl
+collision-same s Spsr v h = clash h refl
 collision-same s Spdr v h =
     let w : loadedOf (accessed s) v ≡ collided (accessed s) = rw h in
     subst (λ (t : Spi). Same s t) (sym w) (record { control = refl; transfer = refl; pins = refl; down = cleared-down (s .flags .spif) })
-collision-same s Ddrb v h = absurd (let z : _≡_ {A = ℕ} 0 1 = cc in omega arith)
+collision-same s Ddrb v h = clash h refl
 
 pub write-same : (s : Spi) (r : Register) (v : ℕ) → isHarmless s (write r v) ≡ true → Same s (nextOf s (write r v))
-write-same s r v h = by (isRefused (writeOf s r v)) refl h
-  where
-    by : (b : Bool) → isRefused (writeOf s r v) ≡ b → pick b true (isCollision s r) ≡ true → Same s (settled s (writeOf s r v))
-    by true e g = refused-same s (writeOf s r v) e
-    by false e g = collision-same s r v g
+write-same s r v h =
+    split (isRefused (writeOf s r v)) (λ e. refused-same s (writeOf s r v) e) (λ e. collision-same s r v (rw e at h))
 
 pub read-same : (s : Spi) (r : Register) → Same s (nextOf s (read r))
 read-same s Spcr = same s

@@ -1,11 +1,11 @@
 pub mod DivisorLaws
 pub mod ClockLaws
-pub mod ValidLaws
 pub mod EventLaws
 pub mod Progress
+pub mod ValidLaws
 pub mod DropLaws
 pub mod EdgeLaws
-pub mod CommandLaws
+pub mod MasterLaws
 pub mod WholeByte
 pub mod Transfers
 pub mod BusLaws

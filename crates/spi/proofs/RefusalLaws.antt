@@ -1,16 +1,15 @@
--- The number of a write is 4 when a setting is changed while a transfer is under way, else 0; and that of vector 1 is 8 without its request.
-use Prim.Native.Nat.{ℕ, _/_, _%_, _<_}
+-- The number of a write is 4 when a setting is changed while a transfer is under way, else 0; and that of vector 1 is 8
+-- without its request.
+use Prim.Native.Nat.{ℕ, _%_}
 use mathlib.Core.Bool.{Bool, true, false, not, _&&_}
-use mathlib.Core.Path.{_≡_, refl, sym, ap, _∙_}
-use native.Mathlib.Omega.{arith}
+use mathlib.Core.Path.{_≡_, refl}
 use lib.Dec.{eqb}
-use borrow.Author.Tests.{eq-eqb, ne-eqb, eqb-true, eqb-false}
-use Rattle.choice.proofs.Picks.{pick-self}
-use Rattle.choice.specs.Pick.{pick, digit}
+use Rattle.choice.specs.Pick.{pick}
+use Rattle.choice.specs.Bit.{isSet}
 use Rattle.spi.specs.Transfer.{isUnderWay as isTransferring, droppedOf}
-use Rattle.spi.specs.Unit.{differs, isRequested}
-use Rattle.spi.specs.Clock.{withTransfer}
-use Rattle.spi.specs.Register.{withFlags, setSpcr, writeSpcr, setSpi2x, writeSpsr, writeSpdr, setDdrb, writeOf, vectorOf}
+use Rattle.spi.specs.Means.{differs, withTransfer, withFlags}
+use Rattle.spi.specs.Unit.{isRequested}
+use Rattle.spi.specs.Register.{setSpcr, writeSpcr, setSpi2x, writeSpsr, writeSpdr, setDdrb, writeOf, vectorOf}
 use Rattle.spi.specs.Refusing.{numberIn, isUnderWay}
 use Rattle.spi.specs.declared.flag.Flag.the-variants.{Clear}
 use Rattle.spi.specs.declared.unit.Spi.{Spi}
@@ -20,34 +19,21 @@ use Rattle.answer.specs.declared.Refusal.the-variants.{UnderWay, Unrequested}
 use Rattle.spi.specs.declared.register.Written.the-variants.{Done, Refused}
 
 -- SPCR: during a transfer, with SPE cleared, or with the same bits 5 to 0
-spcr-by : (dropped new : Spi) (during cleared same : Bool)
-    → numberIn (pick during (pick cleared (Done dropped) (pick same (Done new) (Refused UnderWay))) (Done new))
-    ≡ pick (during && (not cleared && not same)) 4 0
-spcr-by dropped new true true same = refl
-spcr-by dropped new true false true = refl
-spcr-by dropped new true false false = refl
-spcr-by dropped new false cleared same = refl
+spcr-by : (dropped new : Spi) (during on same : Bool)
+    → numberIn (pick during (pick (not on) (Done dropped) (pick same (Done new) (Refused UnderWay))) (Done new))
+    ≡ pick (during && (on && not same)) 4 0
+spcr-by dropped new true false same = refl
+spcr-by dropped new true true true = refl
+spcr-by dropped new true true false = refl
+spcr-by dropped new false on same = refl
 
 write-spcr : (s : Spi) (v : ℕ) → numberIn (writeSpcr s v) ≡ pick (isUnderWay s Spcr v) 4 0
 unfolding writeSpcr
 write-spcr s v =
     spcr-by (setSpcr (withTransfer s (droppedOf (s .transfer))) v) (setSpcr s v)
-    (isTransferring (s .transfer)) (eqb (v / 64 % 2) 0) (eqb (v % 64) (s .control .spcr % 64))
+    (isTransferring (s .transfer)) (isSet v 64) (eqb (v % 64) (s .control .spcr % 64))
 
--- SPSR: a bit differs from a test when it is not its digit
-not-one : (x : ℕ) (t : Bool) → eqb x 1 ≡ t → x < 2 → t ≡ not (eqb x 0)
-not-one x true e h = let one = eqb-true x 1 e in ap not (sym (ne-eqb x 0 (λ z. omega (arith, one, z))))
-not-one x false e h = let n : x ≡ 1 → ⊥ = eqb-false x 1 e in ap not (sym (eq-eqb x 0 (omega (arith, n, h))))
-
-differs-by : (x : ℕ) (b : Bool) → x < 2 → differs (eqb x 1) b ≡ not (eqb x (digit b))
-unfolding differs
-differs-by x true h = by (eqb x 1)
-  where
-    by : (t : Bool) → pick t false true ≡ not t
-    by true = refl
-    by false = refl
-differs-by x false h = pick-self (eqb x 1) ∙ not-one x (eqb x 1) refl h
-
+-- SPSR
 spsr-by : (s new : Spi) (changed during : Bool) → numberIn (pick changed (pick during (Refused UnderWay) (Done new)) (Done s)) ≡ pick (during && changed) 4 0
 spsr-by s new true true = refl
 spsr-by s new true false = refl
@@ -57,8 +43,7 @@ spsr-by s new false false = refl
 write-spsr : (s : Spi) (v : ℕ) → numberIn (writeSpsr s v) ≡ pick (isUnderWay s Spsr v) 4 0
 unfolding writeSpsr
 write-spsr s v =
-    spsr-by s (setSpi2x s (eqb (v % 2) 1)) (differs (eqb (v % 2) 1) (s .control .spi2x)) (isTransferring (s .transfer))
-    ∙ ap (λ (t : Bool). pick (isTransferring (s .transfer) && t) 4 0) (differs-by (v % 2) (s .control .spi2x) (omega arith))
+    spsr-by s (setSpi2x s (isSet v 1)) (differs (isSet v 1) (s .control .spi2x)) (isTransferring (s .transfer))
 
 -- SPDR and DDRB
 none-changed : (s : Spi) (during : Bool) → numberIn (Done s) ≡ pick (during && false) 4 0

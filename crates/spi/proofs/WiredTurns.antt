@@ -4,19 +4,20 @@ use mathlib.Core.Bool.{Bool, true, false}
 use mathlib.Core.Path.{_≡_, refl, sym, ap, subst, _∙_}
 use native.Mathlib.Omega.{arith}
 use lib.Dec.{eqb}
-use borrow.Author.Tests.{eqb-true, eqb-false, ne-eqb}
-use Rattle.choice.specs.Pick.{pick}
-use Rattle.choice.proofs.Picks.{split}
-use Rattle.spi.specs.Control.{isEnabled, isMaster, half}
+use borrow.Author.Tests.{eqb-true, eqb-false}
+use Rattle.choice.proofs.Picks.{split, clash}
+use Rattle.shifter.proofs.ExchangeLaws.{edged-last}
+use Rattle.spi.specs.Control.{isEnabled, isMaster, modeOf, half}
+use Rattle.spi.specs.Transfer.{byteOf}
 use Rattle.spi.specs.Clock.{clockOf}
 use Rattle.spi.specs.Register.{writeSpdr}
-use Rattle.spi.specs.Exchange.{edgeAt, MayStart}
+use Rattle.spi.specs.Event.{edgeAt, inputOf}
+use Rattle.spi.specs.Exchange.{MayStart}
 use Rattle.spi.specs.Wired.{Pair, busOf, masterTurn, slaveTurn, bothTurn, turnOf, finalPair, masterTurns, isSeen, inTurn, atOnce, Linked, Ready, Swapped}
-use Rattle.spi.specs.declared.clock.Levels.{Levels}
 use Rattle.spi.specs.declared.control.Control.{Control}
 use Rattle.spi.specs.declared.unit.Spi.{Spi}
-use Rattle.spi.proofs.ClockLaws.{clock-waits, clock-ends}
-use Rattle.spi.proofs.Transfers.{Due, due-edge, due-waits, due-goes, Begun, begun}
+use Rattle.spi.proofs.ClockLaws.{viewOf, edgedAs, master-waits, clock-edges}
+use Rattle.spi.proofs.Transfers.{Due, due-edge, due-later, due-waits, due-goes, begun}
 use Rattle.spi.proofs.WiredLaws.{kept-master, wired}
 
 -- a slave that is clocked after its master each time sees every edge
@@ -42,62 +43,58 @@ wired-in-turn s t v ms w rd =
 
 -- clocked at once the slave sees an edge one clock after it comes, so the edges have to be two clocks apart
 module _ (a b : Control) (w : Linked a b) (two : 2 ≤ half a) where
+  -- a master with none due
   record Rested (s : Spi) : Type 0 where
     control : s .control ≡ a
+    enabled : isEnabled (s .control) ≡ true
+    master : isMaster (s .control) ≡ true
     left : s .transfer .left .0 ≡ 0
 
-  rested-edge : (p : Pair) → Rested (p .master) → edgeAt (p .master) (busOf p true .sck) ≡ false
-  rested-edge p i = rw (ap isMaster (i .control) ∙ w .master, i .left) refl
+  module _ (p : Pair) where
+    rested-edge : Rested (p .master) → edgeAt (p .master) (busOf p true .sck) ≡ false
+    rested-edge i = rw (i .master, i .left) refl
 
-  rested-clock : (s : Spi) (l : Levels) → Rested s → edgeAt s (l .sck) ≡ false → l .ss ≡ true → Rested (clockOf s l)
-  rested-clock s l i q h =
-      let u : isMaster (s .control) ≡ true = ap isMaster (i .control) ∙ w .master in
-      let none : s .transfer .left .0 - 1 ≡ 0 = omega (arith, i .left) in
-      subst (λ (t : Spi). Rested t) (sym (clock-waits s l (ap isEnabled (i .control) ∙ w .enabledMaster) (kept-master a b w s l (i .control) h) q))
-      (record { control = i .control; left = ap (λ (t : Bool). pick t (record { 0 = s .transfer .left .0 - 1 }) (s .transfer .left) .0) u ∙ none })
+    rested-clock : Rested (p .master) → Rested (clockOf (p .master) (busOf p true))
+    rested-clock i =
+        subst (λ (t : Spi). Rested t)
+        (sym (master-waits (p .master) (busOf p true) (i .enabled) (kept-master a b w (p .master) (busOf p true) (i .control) refl) (i .master) (rested-edge i)))
+        (record { control = i .control; enabled = i .enabled; master = i .master; left = omega (arith, i .left) })
 
-  rested-last : (s : Spi) (l : Levels) → Due a (w .enabledMaster) (w .master) s 15 1 → l .ss ≡ true → Rested (clockOf s l)
-  rested-last s l d h =
-      let q = due-edge a (w .enabledMaster) (w .master) s 15 1 (l .sck) d in
-      subst (λ (t : Spi). Rested t) (sym (clock-ends s l (ap isEnabled (d .control) ∙ w .enabledMaster) (kept-master a b w s l (d .control) h) q (d .edges)))
-      (record { control = d .control; left = refl })
+    rested-last : {k : ℕ} → k ≡ 15 → Due a (p .master) k 1 → Rested (clockOf (p .master) (busOf p true))
+    rested-last {k} k15 d =
+        let s : Spi = p .master in
+        let e = edged-last (modeOf (s .control)) (byteOf (s .transfer) (viewOf s .out)) (inputOf (s .control) (busOf p true)) (d .edges ∙ k15) in
+        subst (λ (t : Spi). Rested t)
+        (sym (clock-edges s (busOf p true) (d .enabled) (kept-master a b w s (busOf p true) (d .control) refl) (due-edge a s k 1 (busOf p true .sck) d)
+        ∙ ap (edgedAs s (busOf p true .sck)) e))
+        (record { control = d .control; enabled = d .enabled; master = d .master; left = refl })
 
   rested-seen : (n : ℕ) (p : Pair) → Rested (p .master) → isSeen false p (atOnce n) ≡ true
   rested-seen zero p i = refl
-  rested-seen (suc n) p i =
-      let q = rested-edge p i in rw q (rested-seen n (turnOf p bothTurn) (rested-clock (p .master) (busOf p true) i q refl))
+  rested-seen (suc n) p i = rw (rested-edge p i) (rested-seen n (turnOf p bothTurn) (rested-clock p i))
+
+  -- the last edge is seen at the clock after it
+  rested-after : (n : ℕ) (p : Pair) → Rested (p .master) → 1 ≤ n → isSeen true p (atOnce n) ≡ true
+  rested-after zero p i h = absurd (omega arith)
+  rested-after (suc n) p i h = rw (rested-edge p i) (rested-seen n (turnOf p bothTurn) (rested-clock p i))
 
   -- n clocks are enough for the edges after the k-th, the next of which is in j + 1
-  at-once-seen : (n : ℕ) (unseen : Bool) (p : Pair) (k j : ℕ) → Due a (w .enabledMaster) (w .master) (p .master) k (suc j) → k ≤ 15 → (unseen ≡ true → 1 ≤ j)
+  at-once-seen : (n : ℕ) (unseen : Bool) (p : Pair) (k j : ℕ) → Due a (p .master) k (suc j) → k ≤ 15 → (unseen ≡ true → 1 ≤ j)
       → suc (suc j) + (15 - k) * half a ≤ n → isSeen unseen p (atOnce n) ≡ true
   at-once-seen zero unseen p k j d hk hu e = absurd (omega arith)
   at-once-seen (suc n) unseen p k (suc j) d hk hu e =
-      let q : edgeAt (p .master) (busOf p true .sck) ≡ false =
-      due-edge a (w .enabledMaster) (w .master) (p .master) k (suc (suc j)) (busOf p true .sck) d ∙ ne-eqb (suc (suc j)) 1 (λ z. omega arith) in
-      let f = due-waits a (w .enabledMaster) (w .master) (p .master) (busOf p true) k j d (kept-master a b w (p .master) (busOf p true) (d .control) refl) in
-      rw q (at-once-seen n false (turnOf p bothTurn) k j f hk (λ z. absurd (let y : _≡_ {A = ℕ} 0 1 = cc in omega arith)) (omega arith))
+      let kp = kept-master a b w (p .master) (busOf p true) (d .control) refl in
+      rw (due-later a (p .master) k j (busOf p true .sck) d)
+      (at-once-seen n false (turnOf p bothTurn) k j (due-waits a (p .master) (busOf p true) k j d kp) hk (λ z. clash z refl) (omega arith))
   at-once-seen (suc n) true p k zero d hk hu e = absurd (omega (arith, hu refl))
   at-once-seen (suc n) false p k zero d hk hu e =
-      let q = due-edge a (w .enabledMaster) (w .master) (p .master) k 1 (busOf p true .sck) d in
-      let kept = kept-master a b w (p .master) (busOf p true) (d .control) refl in
-      split (eqb k 15)
-      (λ z. let k15 : k ≡ 15 = eqb-true k 15 z in
-      let i = rested-last (p .master) (busOf p true) (subst (λ (i : ℕ). Due a (w .enabledMaster) (w .master) (p .master) i 1) k15 d) refl in
-      rw q (last n i (omega (arith, e))))
+      let kp = kept-master a b w (p .master) (busOf p true) (d .control) refl in
+      rw (due-edge a (p .master) k 1 (busOf p true .sck) d)
+      (split (eqb k 15) (λ z. rested-after n (turnOf p bothTurn) (rested-last p (eqb-true k 15 z) d) (omega (arith, e)))
       (λ z. let lt : k < 15 = omega (arith, eqb-false k 15 z) in
-      let f = due-goes a (w .enabledMaster) (w .master) (p .master) (busOf p true) k d kept lt in
-      let g : half a ≡ suc (half a - 1) = omega (arith, two) in
-      let m : (15 - k) * half a ≡ half a + (15 - (k + 1)) * half a = more (15 - k) (15 - (k + 1)) (omega arith) in
-      rw q (at-once-seen n true (turnOf p bothTurn) (k + 1) (half a - 1)
-      (subst (λ (i : ℕ). Due a (w .enabledMaster) (w .master) (clockOf (p .master) (busOf p true)) (k + 1) i) g f) (omega arith) (λ _. omega (arith, two))
-      (omega (arith, e, m, two))))
+      at-once-seen n true (turnOf p bothTurn) (k + 1) (half a - 1) (due-goes a (p .master) (busOf p true) k d kp lt) (omega arith) (λ _. omega (arith, two))
+      (omega (arith, e, more (15 - k) (15 - (k + 1)) (omega arith), two))))
     where
-      last : (i : ℕ) → Rested (clockOf (p .master) (busOf p true)) → 1 ≤ i → isSeen true (turnOf p bothTurn) (atOnce i) ≡ true
-      last zero r h = absurd (omega arith)
-      last (suc i) r h =
-          let q = rested-edge (turnOf p bothTurn) r in
-          rw q (rested-seen i (turnOf (turnOf p bothTurn) bothTurn) (rested-clock (clockOf (p .master) (busOf p true)) (busOf (turnOf p bothTurn) true) r q refl))
-
       more : (x y : ℕ) → x ≡ suc y → x * half a ≡ half a + y * half a
       more x y h = rw h (omega arith)
 
@@ -107,9 +104,6 @@ pub wired-at-once : (s t : Spi) (v : ℕ) → MayStart s v → Linked (s .contro
 wired-at-once s t v ms w rd two =
     let n : ℕ = 16 * half (s .control) + 1 in
     let p : Pair = record { master = writeSpdr s v; slave = t } in
-    let g : Begun s v (writeSpdr s v) = begun s v ms in
-    let d : Due (s .control) (w .enabledMaster) (w .master) (writeSpdr s v) 0 (suc (half (s .control) - 1)) =
-    record { control = g .control; edges = g .edges; left = g .left ∙ omega (arith, two) } in
     wired s t v (atOnce n) ms w rd (omega (arith, at-once-count n))
-    (at-once-seen (s .control) (t .control) w two n false p 0 (half (s .control) - 1) d (omega arith)
-    (λ z. absurd (let y : _≡_ {A = ℕ} 0 1 = cc in omega arith)) (omega (arith, two)))
+    (at-once-seen (s .control) (t .control) w two n false p 0 (half (s .control) - 1) (begun s v ms .due) (omega arith) (λ z. clash z refl)
+    (omega (arith, two)))

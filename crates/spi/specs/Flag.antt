@@ -1,5 +1,5 @@
--- SPIF and WCOL and their arming (document 01, 'SPI': 'Reading SPSR arms SPIF and WCOL as they stand set; the next SPDR access clears the
--- armed ones first, then does its own work').
+-- SPIF and WCOL and their arming (document 01, 'SPI': 'Reading SPSR arms SPIF and WCOL as they stand set; the next SPDR
+-- access clears the armed ones first, then does its own work').
 use mathlib.Core.Bool.{Bool, true, false}
 use Rattle.spi.specs.declared.flag.Flag.{Flag}
 use Rattle.spi.specs.declared.flag.Flag.the-variants.{Clear, Set, Armed}
@@ -27,6 +27,10 @@ abbrev pub clearedOf : Flag → Flag
 clearedOf Clear = Clear
 clearedOf Set = Set
 clearedOf Armed = Clear
+
+-- SPIF is set
+abbrev pub raisedFlags : Flags → Flags
+raisedFlags f = record { spif = raisedOf (f .spif); wcol = f .wcol }
 
 abbrev pub armedFlags : Flags → Flags
 armedFlags f = record { spif = armedOf (f .spif); wcol = armedOf (f .wcol) }

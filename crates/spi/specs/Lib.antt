@@ -1,6 +1,7 @@
 pub mod Divisor
 pub mod Flag
 pub mod Control
+pub mod Means
 pub mod Transfer
 pub mod Unit
 pub mod Clock

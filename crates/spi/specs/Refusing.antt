@@ -1,8 +1,10 @@
--- What a write of an SPI register is refused for (document 01, 'Numbers the rig sees' and 'Registers and their writes'): 4 alone.
-use Prim.Native.Nat.{ℕ, _/_, _%_}
+-- What a write of an SPI register is refused for (document 01, 'Numbers the rig sees' and 'Registers and their
+-- writes'): 4 alone.
+use Prim.Native.Nat.{ℕ, _%_}
 use mathlib.Core.Bool.{Bool, false, not, _&&_}
 use lib.Dec.{eqb}
-use Rattle.choice.specs.Pick.{digit}
+use Rattle.choice.specs.Bit.{isSet}
+use Rattle.spi.specs.Means.{differs}
 use Rattle.spi.specs.Transfer.{isUnderWay as isTransferring}
 use Rattle.answer.specs.Number.{numberOf}
 use Rattle.spi.specs.declared.unit.Spi.{Spi}
@@ -18,8 +20,8 @@ numberIn (Refused r) = numberOf r
 
 -- a write of SPCR with SPE not cleared and a change in bits 5 to 0; of SPSR, with SPI2X (bit 0) changed
 abbrev pub changes : Spi → Register → ℕ → Bool
-changes s Spcr v = not (eqb (v / 64 % 2) 0) && not (eqb (v % 64) (s .control .spcr % 64))
-changes s Spsr v = not (eqb (v % 2) (digit (s .control .spi2x)))
+changes s Spcr v = isSet v 64 && not (eqb (v % 64) (s .control .spcr % 64))
+changes s Spsr v = differs (isSet v 1) (s .control .spi2x)
 changes s Spdr v = false
 changes s Ddrb v = false
 

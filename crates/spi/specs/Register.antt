@@ -1,17 +1,16 @@
 -- Reads and writes of SPCR, SPSR, SPDR and DDRB, and vector 1 (document 01, 'Registers and their writes' and 'SPI').
-use Prim.Native.Nat.{ℕ, _+_, _*_, _/_, _%_}
-use mathlib.Core.Bool.{Bool}
+use Prim.Native.Nat.{ℕ, _+_, _*_, _%_}
+use mathlib.Core.Bool.{Bool, not}
 use lib.Dec.{eqb}
 use Rattle.choice.specs.Pick.{pick, digit}
-use Rattle.shifter.specs.Order.{outBit}
+use Rattle.choice.specs.Bit.{isSet}
+use Rattle.shifter.specs.Exchange.{firstOut}
 use Rattle.spi.specs.Flag.{isUp, armedFlags, clearedFlags, collidedFlags}
 use Rattle.spi.specs.Control.{isEnabled, isMaster, modeOf, half}
 use Rattle.spi.specs.Transfer.{isUnderWay, droppedOf}
-use Rattle.spi.specs.Unit.{differs, isRequested}
-use Rattle.spi.specs.Clock.{withTransfer}
-use Rattle.spi.specs.declared.control.Control.{Control}
+use Rattle.spi.specs.Means.{differs, withControl, withTransfer, withFlags, withMosi}
+use Rattle.spi.specs.Unit.{isRequested}
 use Rattle.spi.specs.declared.flag.Flag.the-variants.{Clear}
-use Rattle.spi.specs.declared.flag.Flags.{Flags}
 use Rattle.spi.specs.declared.unit.Spi.{Spi}
 use Rattle.spi.specs.declared.register.Reading.{Reading}
 use Rattle.spi.specs.declared.register.Register.{Register}
@@ -25,12 +24,6 @@ abbrev pub settled : Spi → Written → Spi
 settled s (Done t) = t
 settled s (Refused r) = s
 
-abbrev pub withControl : Spi → Control → Spi
-withControl s c = record { control = c; transfer = s .transfer; flags = s .flags; pins = s .pins }
-
-abbrev pub withFlags : Spi → Flags → Spi
-withFlags s f = record { control = s .control; transfer = s .transfer; flags = f; pins = s .pins }
-
 -- SPCR with its new value
 abbrev pub setSpcr : Spi → ℕ → Spi
 setSpcr s v = withControl s (record { spcr = v; spi2x = s .control .spi2x; ddrb = s .control .ddrb })
@@ -39,7 +32,7 @@ setSpcr s v = withControl s (record { spcr = v; spi2x = s .control .spi2x; ddrb 
 unfoldable pub writeSpcr : Spi → ℕ → Written
 writeSpcr s v =
     pick (isUnderWay (s .transfer))
-    (pick (eqb (v / 64 % 2) 0) (Done (setSpcr (withTransfer s (droppedOf (s .transfer))) v))
+    (pick (not (isSet v 64)) (Done (setSpcr (withTransfer s (droppedOf (s .transfer))) v))
     (pick (eqb (v % 64) (s .control .spcr % 64)) (Done (setSpcr s v)) (Refused UnderWay)))
     (Done (setSpcr s v))
 
@@ -49,7 +42,8 @@ setSpi2x s b = withControl s (record { spcr = s .control .spcr; spi2x = b; ddrb 
 -- SPSR: only SPI2X (bit 0) is written; changing it during a transfer is 4
 unfoldable pub writeSpsr : Spi → ℕ → Written
 writeSpsr s v =
-    pick (differs (eqb (v % 2) 1) (s .control .spi2x)) (pick (isUnderWay (s .transfer)) (Refused UnderWay) (Done (setSpi2x s (eqb (v % 2) 1))))
+    pick (differs (isSet v 1) (s .control .spi2x))
+    (pick (isUnderWay (s .transfer)) (Refused UnderWay) (Done (setSpi2x s (isSet v 1))))
     (Done s)
 
 -- a write of SPDR that is not taken only sets WCOL
@@ -58,19 +52,15 @@ collided s = withFlags s (collidedFlags (s .flags))
 
 -- the shift register is filled, with the clocks to the first edge
 abbrev pub filled : Spi → ℕ → ℕ → Spi
-filled s v n = withTransfer s (record { shift = v; received = s .transfer .received; edges = 0; left = record { 0 = n } })
-
-abbrev pub withMosi : Spi → Bool → Spi
-withMosi s b =
-    record { control = s .control; transfer = s .transfer; flags = s .flags; pins = record { mosi = b; miso = s .pins .miso; sck = s .pins .sck } }
+filled s v n =
+    withTransfer s (record { shift = v; received = s .transfer .received; edges = 0; left = record { 0 = n } })
 
 -- as master, writing SPDR starts a transfer; with CPHA 0 the first bit is out at once
-unfoldable pub startedOf : Spi → ℕ → Spi
-startedOf s v =
-    pick (modeOf (s .control) .cpha) (filled s v (half (s .control)))
-    (withMosi (filled s v (half (s .control))) (outBit (modeOf (s .control) .dord) v))
+abbrev pub startedOf : Spi → ℕ → Spi
+startedOf s v = withMosi (filled s v (half (s .control))) (firstOut (modeOf (s .control)) v (s .pins .mosi))
 
--- during a transfer it sets WCOL and nothing else; with SPE set otherwise it fills the shift register; with SPE clear it is ignored
+-- during a transfer it sets WCOL and nothing else; with SPE set otherwise it fills the shift register; with SPE clear
+-- it is ignored
 unfoldable pub loadedOf : Spi → ℕ → Spi
 loadedOf s v =
     pick (isUnderWay (s .transfer)) (collided s)
@@ -106,4 +96,5 @@ readOf s Ddrb = record { value = s .control .ddrb; spi = s }
 
 -- vector 1 clears and disarms SPIF; without its request it is 8
 unfoldable pub vectorOf : Spi → Written
-vectorOf s = pick (isRequested s) (Done (withFlags s (record { spif = Clear; wcol = s .flags .wcol }))) (Refused Unrequested)
+vectorOf s =
+    pick (isRequested s) (Done (withFlags s (record { spif = Clear; wcol = s .flags .wcol }))) (Refused Unrequested)

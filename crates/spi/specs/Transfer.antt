@@ -1,14 +1,14 @@
--- A transfer and its edges 1 to 16 (document 01, 'SPI').
-use Prim.Native.Nat.{ℕ, _+_}
-use mathlib.Core.Bool.{Bool, true, false, not}
-use lib.Dec.{eqb, ltb}
+-- A transfer and what an edge does to it (document 01, 'SPI'); the edges 1 to 16 themselves are `shifter`'s.
+use mathlib.Core.Bool.{Bool, true, not}
+use lib.Dec.{eqb}
 use Rattle.choice.specs.Pick.{pick}
-use Rattle.shifter.specs.Edge.{edgeOf}
-use Rattle.shifter.specs.declared.Mode.{Mode}
-use Rattle.shifter.specs.declared.Shifter.{Shifter}
+use Rattle.shifter.specs.declared.Exchange.{Exchange}
+use Rattle.shifter.specs.declared.Edged.{Edged}
+use Rattle.shifter.specs.declared.Edged.the-variants.{Onward, Complete}
+use Rattle.spi.specs.Flag.{raisedFlags}
 use Rattle.spi.specs.declared.divisor.Clocks.{Clocks}
+use Rattle.spi.specs.declared.flag.Flags.{Flags}
 use Rattle.spi.specs.declared.transfer.Transfer.{Transfer}
-use Rattle.spi.specs.declared.transfer.Edged.{Edged}
 
 -- 1 to 15 edges seen, or a master transfer not yet finished
 unfoldable pub isUnderWay : Transfer → Bool
@@ -18,22 +18,23 @@ isUnderWay t = pick (eqb (t .edges) 0) (not (eqb (t .left .0) 0)) true
 abbrev pub droppedOf : Transfer → Transfer
 droppedOf t = record { shift = t .shift; received = t .received; edges = 0; left = record { 0 = 0 } }
 
--- the edge that comes next, of 16
-unfoldable pub nextEdge : Transfer → ℕ
-nextEdge t = pick (ltb (t .edges) 15) (t .edges + 1) 16
+-- the byte of a transfer, with the bit that is out
+abbrev pub byteOf : Transfer → Bool → Exchange
+byteOf t out = record { register = record { shift = t .shift; out = out }; edges = t .edges }
 
--- after edge k, which is not the last
-abbrev pub onwardOf : Transfer → ℕ → Shifter → Clocks → Edged
-onwardOf t k s left =
-    record { transfer = record { shift = s .shift; received = t .received; edges = k; left = left }; out = s .out; complete = false }
+-- after an edge, with the clocks to the next one; at edge 16 the shift register is copied to the receive buffer, and an
+-- unread byte is lost ..
+abbrev pub edgedTransfer : Transfer → Clocks → Edged → Transfer
+edgedTransfer t left (Onward x) =
+    record { shift = x .register .shift; received = t .received; edges = x .edges; left = left }
+edgedTransfer t left (Complete r) = record { shift = r .shift; received = r .shift; edges = 0; left = record { 0 = 0 } }
 
--- at edge 16 the shift register is copied to the receive buffer; an unread byte is lost
-abbrev pub completeOf : Shifter → Edged
-completeOf s =
-    record { transfer = record { shift = s .shift; received = s .shift; edges = 0; left = record { 0 = 0 } }; out = s .out; complete = true }
+-- .. and SPIF is set
+abbrev pub edgedFlags : Flags → Edged → Flags
+edgedFlags f (Onward x) = f
+edgedFlags f (Complete r) = raisedFlags f
 
--- the next edge, of master and slave alike
-unfoldable pub edgedOf : Transfer → Mode → Bool → Bool → Clocks → Edged
-edgedOf t m out input left =
-    pick (ltb (t .edges) 15) (onwardOf t (t .edges + 1) (edgeOf m (record { shift = t .shift; out = out }) (t .edges + 1) input) left)
-    (completeOf (edgeOf m (record { shift = t .shift; out = out }) 16 input))
+-- the bit that is out after it
+abbrev pub edgedOut : Edged → Bool
+edgedOut (Onward x) = x .register .out
+edgedOut (Complete r) = r .out

@@ -1,10 +1,11 @@
 -- The SPI at reset, its output and its request.
 use Prim.Native.Nat.{ℕ, _+_, _*_, _%_}
-use mathlib.Core.Bool.{Bool, false, not}
+use mathlib.Core.Bool.{Bool, false}
 use lib.Dec.{eqb}
 use Rattle.choice.specs.Pick.{pick, digit}
 use Rattle.spi.specs.Flag.{isUp}
 use Rattle.spi.specs.Control.{isAsking, isEnabled, isMaster, cpolOf, drives}
+use Rattle.spi.specs.Means.{differs}
 use Rattle.spi.specs.declared.flag.Flag.the-variants.{Clear}
 use Rattle.spi.specs.declared.unit.Spi.{Spi}
 
@@ -17,9 +18,6 @@ resetSpi = record {
   pins = record { mosi = false; miso = false; sck = false };
 }
 
-unfoldable pub differs : Bool → Bool → Bool
-differs a b = pick a (not b) b
-
 -- SCK rests at CPOL; each edge turns it
 abbrev pub sckOf : Spi → Bool
 sckOf s = differs (eqb (s .transfer .edges % 2) 1) (cpolOf (s .control))
@@ -28,7 +26,8 @@ sckOf s = differs (eqb (s .transfer .edges % 2) 1) (cpolOf (s .control))
 unfoldable pub pinOf : Bool → Bool → ℕ
 pinOf driven level = pick driven (16 + digit level) 0
 
--- MOSI, MISO, SCK in bits 1 to 3. Driven: MOSI and SCK as master, MISO as slave with SS low, each with SPE and its DDRB bit
+-- MOSI, MISO, SCK in bits 1 to 3. Driven: MOSI and SCK as master, MISO as slave with SS low, each with SPE and its DDRB
+-- bit
 unfoldable pub outputOf : Spi → Bool → ℕ
 outputOf s ss =
     pick (isEnabled (s .control))

@@ -1,17 +1,17 @@
 -- A master and a slave of this model on one wire, each clocked by its own crystal.
-use Prim.Native.Nat.{ℕ, zero, suc, _/_, _%_, _<_}
+use Prim.Native.Nat.{ℕ, zero, suc, _<_}
 use mathlib.Core.Bool.{Bool, true, false, not}
 use mathlib.Core.List.{List, [], _∷_}
 use mathlib.Core.Path.{_≡_}
-use lib.Dec.{eqb}
 use Rattle.choice.specs.Pick.{pick}
-use Rattle.shifter.specs.Order.{outBit}
+use Rattle.choice.specs.Bit.{isSet}
+use Rattle.shifter.specs.Byte.{Presented}
 use Rattle.spi.specs.Control.{isEnabled, isMaster, cpolOf, modeOf, drives}
 use Rattle.spi.specs.Flag.{isUp}
 use Rattle.spi.specs.Transfer.{isUnderWay}
 use Rattle.spi.specs.Unit.{outputOf}
 use Rattle.spi.specs.Clock.{clockOf}
-use Rattle.spi.specs.Exchange.{edgeAt}
+use Rattle.spi.specs.Event.{edgeAt}
 use Rattle.spi.specs.declared.clock.Levels.{Levels}
 use Rattle.spi.specs.declared.control.Control.{Control}
 use Rattle.spi.specs.declared.unit.Spi.{Spi}
@@ -20,14 +20,14 @@ pub record Pair : Type 0 where
   pub master : Spi
   pub slave : Spi
 
--- a level of an output byte, by the weight of its bit
-abbrev pub wire : ℕ → ℕ → Bool
-wire o w = eqb (o / w % 2) 1
-
 -- the levels of the wires as the output bytes give them; the master's SS is held high and the slave's low
 abbrev pub busOf : Pair → Bool → Levels
-busOf p ss =
-    record { miso = wire (outputOf (p .slave) false) 4; mosi = wire (outputOf (p .master) true) 2; sck = wire (outputOf (p .master) true) 8; ss = ss }
+busOf p ss = record {
+  miso = isSet (outputOf (p .slave) false) 4;
+  mosi = isSet (outputOf (p .master) true) 2;
+  sck = isSet (outputOf (p .master) true) 8;
+  ss = ss;
+}
 
 -- a clock of the one, of the other, or of both at once
 pub data Turn : Type 0 where
@@ -50,15 +50,17 @@ masterTurns (masterTurn ∷ ts) = suc (masterTurns ts)
 masterTurns (slaveTurn ∷ ts) = masterTurns ts
 masterTurns (bothTurn ∷ ts) = suc (masterTurns ts)
 
--- the slave can see every edge: it has a clock after each edge of the master and before the next, and after the last. `unseen` is whether
--- an edge waits for it; in a clock of both it sees the levels before
+-- the slave can see every edge: it has a clock after each edge of the master and before the next, and after the last.
+-- `unseen` is whether an edge waits for it; in a clock of both it sees the levels before
 abbrev pub isSeen : Bool → Pair → List Turn → Bool
 isSeen unseen p [] = not unseen
 isSeen unseen p (masterTurn ∷ ts) =
-    pick (edgeAt (p .master) (busOf p true .sck)) (pick unseen false (isSeen true (turnOf p masterTurn) ts)) (isSeen unseen (turnOf p masterTurn) ts)
+    let q : Pair = turnOf p masterTurn in
+    pick (edgeAt (p .master) (busOf p true .sck)) (pick unseen false (isSeen true q ts)) (isSeen unseen q ts)
 isSeen unseen p (slaveTurn ∷ ts) = isSeen false (turnOf p slaveTurn) ts
 isSeen unseen p (bothTurn ∷ ts) =
-    pick (edgeAt (p .master) (busOf p true .sck)) (pick unseen false (isSeen true (turnOf p bothTurn) ts)) (isSeen false (turnOf p bothTurn) ts)
+    let q : Pair = turnOf p bothTurn in
+    pick (edgeAt (p .master) (busOf p true .sck)) (pick unseen false (isSeen true q ts)) (isSeen false q ts)
 
 -- n clocks of each, in turn
 abbrev pub inTurn : ℕ → List Turn
@@ -82,12 +84,13 @@ pub record Linked (a b : Control) : Type 0 where
   pub sck : drives a 32 ≡ true
   pub miso : drives b 16 ≡ true
 
--- a slave between two bytes that has had a clock on the wire at rest: it has seen SCK there, and with CPHA 0 it shows its first bit
+-- a slave between two bytes that has had a clock on the wire at rest: it has seen SCK there, and with CPHA 0 it shows
+-- its first bit
 pub record Ready (s : Spi) : Type 0 where
   pub idle : s .transfer .edges ≡ 0
   pub byte : s .transfer .shift < 256
   pub rest : s .pins .sck ≡ cpolOf (s .control)
-  pub first : modeOf (s .control) .cpha ≡ false → s .pins .miso ≡ outBit (modeOf (s .control) .dord) (s .transfer .shift)
+  pub first : Presented (modeOf (s .control)) (record { shift = s .transfer .shift; out = s .pins .miso })
 
 -- the master has the slave's byte x, the slave the master's v, and both say so
 pub record Swapped (p : Pair) (v x : ℕ) : Type 0 where

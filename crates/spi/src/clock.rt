@@ -1,13 +1,15 @@
 use crate::divisor::Clocks;
 use crate::divisor::half;
-use crate::flag::Flags;
 use crate::transfer::Transfer;
 use crate::unit::Pins;
 use crate::unit::Spi;
 use crate::unit::differs;
+use shifter::Edged;
 use shifter::Shifter;
+use shifter::next_edge;
 ghost use mathlib.Core.Path.{_≡_};
-ghost use Rattle.spi.specs.Clock.{raisedFlags, completedFlags, withMiso, withSck, commandedOf, withTransfer, masterEdge, masterOf, faultOf, isEdge, presentedOf, slaveEdge, selectedOf, slaveOf, steppedOf, clockOf};
+ghost use Rattle.spi.specs.Means.{withTransfer, withMiso, withSck};
+ghost use Rattle.spi.specs.Clock.{masterEdge, masterOf, masterClock, faultOf, isSckEdge, presentedOf, slaveEdge, selectedOf, slaveOf, steppedOf, clockOf};
 
 // The levels of the pins at a clock.
 pub struct Levels {
@@ -17,28 +19,9 @@ pub struct Levels {
     pub ss: bool,
 }
 
-impl Flags {
-    fn raised(self) -> Flags
-        ensures { λ r. ⌜ r ≡ raisedFlags self ⌝ }
-    {
-        let a = self.spif;
-        let b = self.wcol;
-        Flags {
-            spif: a.raised(),
-            wcol: b,
-        }
-    }
-
-    fn completed(self, complete: bool) -> Flags
-        ensures { λ r. ⌜ r ≡ completedFlags self complete ⌝ }
-    {
-        if complete { self.raised() } else { self }
-    }
-}
-
 // Whether SCK has an edge that counts: the first of a byte must be a leading one.
 fn edge_seen(cpol: bool, edges: u8, last: bool, sck: bool) -> bool
-    ensures { λ r. ⌜ r ≡ isEdge cpol edges last sck ⌝ }
+    ensures { λ r. ⌜ r ≡ isSckEdge cpol edges last sck ⌝ }
 {
     if differs(sck, last) {
         if edges == 0 {
@@ -50,13 +33,13 @@ fn edge_seen(cpol: bool, edges: u8, last: bool, sck: bool) -> bool
 }
 
 impl Spi {
-    // Written over the fields, and not by `edged`: in a run of a master every clock may be an edge, and copies of the transfer cost more than
-    // the edge does.
+    // Written over the fields, and not by `Exchange::edged`: in a run of a master every clock may be an edge, and
+    // copies of the transfer cost more than the edge does.
     fn master_edge(mut self, miso: bool) -> Spi
         ensures { λ r. ⌜ r ≡ masterEdge self miso ⌝ }
     {
         let c = self.control;
-        let n = self.transfer.next_edge();
+        let n = next_edge(self.transfer.edges);
         let s = Shifter {
             shift: self.transfer.shift,
             out: self.pins.mosi,
@@ -94,7 +77,7 @@ impl Spi {
         self
     }
 
-    // A master that loses SS becomes a slave.
+    // A mode fault makes the master a slave.
     fn faulted(self) -> Spi
         ensures { λ r. ⌜ r ≡ faultOf self ⌝ }
     {
@@ -131,11 +114,8 @@ impl Spi {
         ensures { λ r. ⌜ r ≡ presentedOf self ⌝ }
     {
         let m = self.control.mode();
-        if m.cpha {
-            return self;
-        }
         if self.transfer.edges == 0 {
-            return self.with_miso(m.out_bit(self.transfer.shift));
+            return self.with_miso(m.first_out(self.transfer.shift, self.pins.miso));
         }
         self
     }
@@ -144,19 +124,48 @@ impl Spi {
         ensures { λ r. ⌜ r ≡ slaveEdge self mosi ⌝ }
     {
         let c = self.control;
+        let f = self.flags;
         let p = self.pins;
-        let e = self.transfer.edged(c.mode(), p.miso, mosi, Clocks(0));
-        let t = e.transfer;
-        let f = self.flags.completed(e.complete);
-        Spi {
-            control: c,
-            transfer: t,
-            flags: f,
-            pins: Pins {
-                mosi: p.mosi,
-                miso: e.out,
-                sck: p.sck,
-            },
+        let e = self.transfer.byte(p.miso).edged(c.mode(), mosi);
+        match e {
+            Edged::Onward(x) => {
+                let r = x.register;
+                let t = Transfer {
+                    shift: r.shift,
+                    received: self.transfer.received,
+                    edges: x.edges,
+                    left: Clocks(0),
+                };
+                Spi {
+                    control: c,
+                    transfer: t,
+                    flags: f,
+                    pins: Pins {
+                        mosi: p.mosi,
+                        miso: r.out,
+                        sck: p.sck,
+                    },
+                }
+            }
+            Edged::Complete(r) => {
+                let t = Transfer {
+                    shift: r.shift,
+                    received: r.shift,
+                    edges: 0,
+                    left: Clocks(0),
+                };
+                let g = f.raised();
+                Spi {
+                    control: c,
+                    transfer: t,
+                    flags: g,
+                    pins: Pins {
+                        mosi: p.mosi,
+                        miso: r.out,
+                        sck: p.sck,
+                    },
+                }
+            }
         }
     }
 
@@ -207,7 +216,7 @@ impl Spi {
         let c = self.control;
         if c.enabled() {
             if c.master() {
-                if c.overruled(l.ss) {
+                if c.mode_fault(l.ss) {
                     return self.faulted();
                 }
                 return self.mastered(l.miso);
@@ -224,9 +233,9 @@ impl Spi {
         self
     }
 
-    // One clock of a master that SS cannot make a slave.
-    pub fn commanded(self, l: Levels) -> Spi
-        ensures { λ r. ⌜ r ≡ commandedOf self l ⌝ }
+    // One clock of a master that keeps it.
+    pub fn master_clock(self, l: Levels) -> Spi
+        ensures { λ r. ⌜ r ≡ masterClock self l ⌝ }
     {
         self.mastered(l.miso).with_sck(l.sck)
     }

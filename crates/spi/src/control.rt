@@ -1,6 +1,6 @@
 use shifter::Mode;
 ghost use mathlib.Core.Path.{_≡_};
-ghost use Rattle.spi.specs.Control.{isEnabled, isMaster, cpolOf, modeOf, divisorNumber, withoutMstr, isInput, isOverruled, isCommanding};
+ghost use Rattle.spi.specs.Control.{isEnabled, isMaster, cpolOf, modeOf, divisorNumber, withoutMstr, isInput, isModeFault, keepsMaster};
 
 // SPCR, SPI2X of SPSR, and DDRB.
 pub struct Control {
@@ -66,12 +66,12 @@ impl Control {
     pub fn ss_input(self) -> bool
         ensures { λ r. ⌜ r ≡ isInput self ⌝ }
     {
-        self.ddrb / 4 % 2 == 0
+        !(self.ddrb / 4 % 2 == 1)
     }
 
-    // Another master selects this one: SS is an input and low.
-    pub fn overruled(self, ss: bool) -> bool
-        ensures { λ r. ⌜ r ≡ isOverruled self ss ⌝ }
+    // A mode fault, of a master: SS is an input and low.
+    pub fn mode_fault(self, ss: bool) -> bool
+        ensures { λ r. ⌜ r ≡ isModeFault self ss ⌝ }
     {
         if self.ss_input() {
             return !ss;
@@ -79,9 +79,9 @@ impl Control {
         false
     }
 
-    // A master that SS cannot make a slave: SPE and MSTR are set, and SS is an output.
-    pub fn commands(self) -> bool
-        ensures { λ r. ⌜ r ≡ isCommanding self ⌝ }
+    // SPE and MSTR are set and SS is an output, so that no mode fault can come.
+    pub fn keeps_master(self) -> bool
+        ensures { λ r. ⌜ r ≡ keepsMaster self ⌝ }
     {
         if self.enabled() {
             if self.master() {

@@ -1,5 +1,5 @@
 ghost use mathlib.Core.Path.{_≡_};
-ghost use Rattle.spi.specs.Flag.{isUp, raisedOf, armedOf, clearedOf, armedFlags, clearedFlags, collidedFlags};
+ghost use Rattle.spi.specs.Flag.{isUp, raisedOf, armedOf, clearedOf, raisedFlags, armedFlags, clearedFlags, collidedFlags};
 
 // A flag that a read of SPSR arms, and the SPDR access after it clears.
 pub enum Flag {
@@ -58,6 +58,18 @@ impl Flag {
 }
 
 impl Flags {
+    // SPIF is set.
+    pub fn raised(self) -> Flags
+        ensures { λ r. ⌜ r ≡ raisedFlags self ⌝ }
+    {
+        let a = self.spif;
+        let b = self.wcol;
+        Flags {
+            spif: a.raised(),
+            wcol: b,
+        }
+    }
+
     pub fn armed(self) -> Flags
         ensures { λ r. ⌜ r ≡ armedFlags self ⌝ }
     {

@@ -11,7 +11,8 @@ use answer::Refusal;
 use choice::digit;
 ghost use mathlib.Core.Path.{_≡_};
 ghost use Rattle.spi.specs.Unit.{resetSpi};
-ghost use Rattle.spi.specs.Register.{withControl, withFlags, setSpcr, writeSpcr, setSpi2x, writeSpsr, filled, withMosi, startedOf, loadedOf, accessed, setDdrb, writeOf, spsr, readOf, vectorOf};
+ghost use Rattle.spi.specs.Means.{withControl, withFlags, withMosi};
+ghost use Rattle.spi.specs.Register.{setSpcr, writeSpcr, setSpi2x, writeSpsr, filled, startedOf, loadedOf, accessed, setDdrb, writeOf, spsr, readOf, vectorOf};
 
 pub enum Register {
     Spcr,
@@ -94,7 +95,7 @@ impl Spi {
         ensures { λ r. ⌜ r ≡ writeSpcr self v ⌝ }
     {
         if self.transfer.under_way() {
-            if v / 64 % 2 == 0 {
+            if !(v / 64 % 2 == 1) {
                 return Written::Done(self.with_transfer(self.transfer.dropped()).set_spcr(v));
             }
             if v % 64 == self.control.spcr % 64 {
@@ -164,12 +165,8 @@ impl Spi {
         ensures { λ r. ⌜ r ≡ startedOf self v ⌝ }
     {
         let c = self.control;
-        let m = c.mode();
-        let s = self.filled(v, half(c.divisor_number()));
-        if m.cpha {
-            return s;
-        }
-        s.with_mosi(m.out_bit(v))
+        let first = c.mode().first_out(v, self.pins.mosi);
+        self.filled(v, half(c.divisor_number())).with_mosi(first)
     }
 
     // During a transfer it sets WCOL and nothing else.

@@ -6,7 +6,8 @@ use crate::transfer::Transfer;
 use choice::digit;
 ghost use mathlib.Core.Path.{_≡_};
 ghost use Prim.Native.Nat.{_≤_};
-ghost use Rattle.spi.specs.Unit.{resetSpi, differs, sckOf, pinOf, outputOf, isRequested, requestsOf};
+ghost use Rattle.spi.specs.Means.{differs};
+ghost use Rattle.spi.specs.Unit.{resetSpi, sckOf, pinOf, outputOf, isRequested, requestsOf};
 
 // The last bits put out on MOSI and MISO, and the level of SCK at the last clock.
 pub struct Pins {

@@ -1,6 +1,6 @@
 use mathlib.Core.Path.{refl}
 use Rattle.choice.proofs.Picks.{pick-true, pick-false}
-use Rattle.spi.specs.Unit.{differs}
+use Rattle.spi.specs.Means.{differs}
 use Rattle.spi.proofs.unit.differs.Statement.{statement}
 use Rattle.spi.proofs.unit.differs.Tie as tie
 

@@ -1,6 +1,7 @@
 use mathlib.Core.Path.{ap, _∙_}
 use Rattle.choice.proofs.Picks.{pick-true, pick-false}
-use Rattle.spi.specs.Clock.{withTransfer, slaveOf}
+use Rattle.spi.specs.Clock.{slaveOf}
+use Rattle.spi.specs.Means.{withTransfer}
 use Rattle.spi.specs.declared.transfer.Transfer.{Transfer}
 use borrow.Author.Needs.{needs}
 use Rattle.spi.proofs.unit.Spi.slaved.Statement.{statement}

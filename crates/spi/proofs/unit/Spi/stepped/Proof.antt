@@ -1,8 +1,6 @@
-use mathlib.Core.Path.{refl}
-use Rattle.choice.proofs.Picks.{pick-true, pick-false}
 use Rattle.spi.specs.Clock.{steppedOf}
-use Rattle.spi.proofs.ClockLaws.{overruled-pick}
 use borrow.Author.Needs.{needs}
+use Rattle.choice.proofs.Picks.{picks}
 use Rattle.spi.proofs.unit.Spi.stepped.Statement.{statement}
 use Rattle.spi.proofs.unit.Spi.stepped.Tie as tie
 
@@ -12,39 +10,33 @@ enabled-requires c κs = search needs
 master-requires : tie.Need-master-requires
 master-requires c κs = search needs
 
-overruled-requires : tie.Need-overruled-requires
-overruled-requires c κs = search needs
+mode-fault-requires : tie.Need-mode-fault-requires
+mode-fault-requires c κs = search needs
 
 faulted-requires : tie.Need-faulted-requires
 faulted-requires c κs = search needs
 
 returns : tie.Need-returns
 unfolding steppedOf
-returns c =
-    rw (← c .before .before .before .before .before .before .enabled .ensures, ← c .before .before .before .before .master .ensures, overruled-pick (c .before .before .before .before .before .before .before .before .args .self .control) (c .before .before .before .before .before .before .before .before .args .l .ss), ← c .before .before .overruled .ensures)
-    (pick-true _ _ _ _ (c .before .before .before .before .before .if1 .taken) (pick-true _ _ _ _ (c .before .before .before .if2 .taken) (pick-true _ _ _ _ (c .before .if3 .taken) (c .faulted .ensures))))
+returns c = search picks
 
 mastered-requires : tie.Need-mastered-requires
 mastered-requires c κs = search needs
 
 returns-2 : tie.Need-returns-2
 unfolding steppedOf
-returns-2 c =
-    rw (← c .before .before .before .before .before .before .enabled .ensures, ← c .before .before .before .before .master .ensures, overruled-pick (c .before .before .before .before .before .before .before .before .args .self .control) (c .before .before .before .before .before .before .before .before .args .l .ss), ← c .before .before .overruled .ensures)
-    (pick-true _ _ _ _ (c .before .before .before .before .before .if1 .taken) (pick-true _ _ _ _ (c .before .before .before .if2 .taken) (pick-false _ _ _ _ (c .before .if3 .left) (c .mastered .ensures))))
+returns-2 c = search picks
 
 slaved-requires : tie.Need-slaved-requires
 slaved-requires c κs = search needs
 
 returns-3 : tie.Need-returns-3
 unfolding steppedOf
-returns-3 c =
-    rw (← c .before .before .before .before .enabled .ensures, ← c .before .before .master .ensures)
-    (pick-true _ _ _ _ (c .before .before .before .if1 .taken) (pick-false _ _ _ _ (c .before .if2 .left) (c .slaved .ensures)))
+returns-3 c = search picks
 
 returns-4 : tie.Need-returns-4
 unfolding steppedOf
-returns-4 c = rw (← c .before .enabled .ensures) (pick-false _ _ _ _ (c .if1 .left) refl)
+returns-4 c = search picks
 
 pub stepped-spec : {M : Type 1} → statement M
 stepped-spec =
@@ -52,7 +44,7 @@ stepped-spec =
     (tie.spec
     enabled-requires
     master-requires
-    overruled-requires
+    mode-fault-requires
     faulted-requires
     returns
     mastered-requires

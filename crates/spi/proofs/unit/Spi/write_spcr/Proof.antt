@@ -1,6 +1,5 @@
-use mathlib.Core.Path.{refl}
-use borrow.Author.Tests.{eq-eqb, ne-eqb}
-use Rattle.choice.proofs.Picks.{pick-true, pick-false}
+use borrow.Author.Tests.{eq-eqb}
+use Rattle.choice.proofs.Picks.{picks, pick-true, pick-false}
 use Rattle.spi.specs.Register.{writeSpcr}
 use borrow.Author.Needs.{needs}
 use Rattle.spi.proofs.unit.Spi.write_spcr.Statement.{statement}
@@ -20,25 +19,33 @@ set-spcr-requires c κs = search needs
 
 returns : tie.Need-returns
 unfolding writeSpcr
-returns c = rw (← c .before .before .before .before .before .under-way .ensures) (pick-true _ _ _ _ (c .before .before .before .before .if1 .taken) (pick-true _ _ _ _ (eq-eqb _ _ (c .before .before .before .if2 .taken)) rw (c .set-spcr .ensures, c .before .with-transfer .ensures, c .before .before .dropped .ensures)))
+returns c =
+    rw (← c .before .before .before .before .before .under-way .ensures)
+    (pick-true _ _ _ _ (c .before .before .before .before .if1 .taken)
+    (pick-true _ _ _ _ (c .before .before .before .if2 .taken)
+    rw (c .set-spcr .ensures, c .before .with-transfer .ensures, c .before .before .dropped .ensures)))
 
 set-spcr-requires-2 : tie.Need-set-spcr-requires-2
 set-spcr-requires-2 c κs = search needs
 
 returns-2 : tie.Need-returns-2
 unfolding writeSpcr
-returns-2 c = rw (← c .before .before .before .before .before .under-way .ensures) (pick-true _ _ _ _ (c .before .before .before .before .if1 .taken) (pick-false _ _ _ _ (ne-eqb _ _ (c .before .before .before .if2 .left)) (pick-true _ _ _ _ (eq-eqb _ _ (c .before .if3 .taken)) rw (c .set-spcr2 .ensures))))
+returns-2 c =
+    rw (← c .before .before .before .before .before .under-way .ensures)
+    (pick-true _ _ _ _ (c .before .before .before .before .if1 .taken)
+    (pick-false _ _ _ _ (c .before .before .before .if2 .left)
+    (pick-true _ _ _ _ (eq-eqb _ _ (c .before .if3 .taken)) rw (c .set-spcr2 .ensures))))
 
 returns-3 : tie.Need-returns-3
 unfolding writeSpcr
-returns-3 c = rw (← c .before .before .before .before .under-way .ensures) (pick-true _ _ _ _ (c .before .before .before .if1 .taken) (pick-false _ _ _ _ (ne-eqb _ _ (c .before .before .if2 .left)) (pick-false _ _ _ _ (ne-eqb _ _ (c .if3 .left)) refl)))
+returns-3 c = search picks
 
 set-spcr-requires-3 : tie.Need-set-spcr-requires-3
 set-spcr-requires-3 c κs = search needs
 
 returns-4 : tie.Need-returns-4
 unfolding writeSpcr
-returns-4 c = rw (← c .before .before .under-way .ensures) (pick-false _ _ _ _ (c .before .if1 .left) rw (c .set-spcr3 .ensures))
+returns-4 c = search picks
 
 pub write-spcr-spec : {M : Type 1} → statement M
 write-spcr-spec =

@@ -1,7 +1,7 @@
-use mathlib.Core.Path.{refl}
-use Rattle.choice.proofs.Picks.{pick-true, pick-false}
+use Rattle.shifter.proofs.Laws.{odd-set}
 use Rattle.spi.specs.Register.{writeSpsr}
 use borrow.Author.Needs.{needs}
+use Rattle.choice.proofs.Picks.{picks, pick-true, pick-false}
 use Rattle.spi.proofs.unit.Spi.write_spsr.Statement.{statement}
 use Rattle.spi.proofs.unit.Spi.write_spsr.Tie as tie
 
@@ -13,18 +13,20 @@ under-way-requires c κs = search needs
 
 returns : tie.Need-returns
 unfolding writeSpsr
-returns c = rw (← c .before .before .before .differs .ensures, ← c .before .under-way .ensures) (pick-true _ _ _ _ (c .before .before .if1 .taken) (pick-true _ _ _ _ (c .if2 .taken) refl))
+returns c = rw (← odd-set (c .before .before .before .before .args .v)) (search picks)
 
 set-spi2x-requires : tie.Need-set-spi2x-requires
 set-spi2x-requires c κs = search needs
 
 returns-2 : tie.Need-returns-2
 unfolding writeSpsr
-returns-2 c = rw (← c .before .before .before .before .differs .ensures, ← c .before .before .under-way .ensures) (pick-true _ _ _ _ (c .before .before .before .if1 .taken) (pick-false _ _ _ _ (c .before .if2 .left) rw (c .set-spi2x .ensures)))
+returns-2 c =
+    rw (← odd-set (c .before .before .before .before .before .args .v), ← c .before .before .before .before .differs .ensures, ← c .before .before .under-way .ensures)
+    (pick-true _ _ _ _ (c .before .before .before .if1 .taken) (pick-false _ _ _ _ (c .before .if2 .left) rw (c .set-spi2x .ensures)))
 
 returns-3 : tie.Need-returns-3
 unfolding writeSpsr
-returns-3 c = rw (← c .before .differs .ensures) (pick-false _ _ _ _ (c .if1 .left) refl)
+returns-3 c = rw (← odd-set (c .before .before .args .v)) (search picks)
 
 pub write-spsr-spec : {M : Type 1} → statement M
 write-spsr-spec =

@@ -1,15 +1,10 @@
 use mathlib.Core.Bool.{not}
 use mathlib.Core.Path.{ap}
 use Rattle.choice.proofs.Picks.{picks, pick-true}
-use Rattle.spi.specs.Control.{isCommanding}
+use Rattle.spi.specs.Control.{keepsMaster}
 use borrow.Author.Needs.{needs}
-use Rattle.spi.proofs.control.Control.commands.Statement.{statement}
-use Rattle.spi.proofs.control.Control.commands.Tie as tie
-use Rattle.spi.proofs.control.Control.commands.Reads as reads
-use Rattle.spi.proofs.control.Control.commands.Lts as lts
-use Rattle.spi.proofs.control.Control.enabled.Reads as enabled-reads
-use Rattle.spi.proofs.control.Control.master.Reads as master-reads
-use Rattle.spi.proofs.control.Control.ss_input.Reads as ss-input-reads
+use Rattle.spi.proofs.control.Control.keeps_master.Statement.{statement}
+use Rattle.spi.proofs.control.Control.keeps_master.Tie as tie
 
 enabled-requires : tie.Need-enabled-requires
 enabled-requires c κs = search needs
@@ -21,20 +16,20 @@ ss-input-requires : tie.Need-ss-input-requires
 ss-input-requires c κs = search needs
 
 returns : tie.Need-returns
-unfolding isCommanding
+unfolding keepsMaster
 returns c =
     rw (← c .before .before .before .before .enabled .ensures, ← c .before .before .master .ensures)
     (pick-true _ _ _ _ (c .before .before .before .if1 .taken) (pick-true _ _ _ _ (c .before .if2 .taken) (ap not (c .ss-input .ensures))))
 
 returns-2 : tie.Need-returns-2
-unfolding isCommanding
+unfolding keepsMaster
 returns-2 c = search picks
 
 returns-3 : tie.Need-returns-3
-unfolding isCommanding
+unfolding keepsMaster
 returns-3 c = search picks
 
-pub commands-spec : {M : Type 1} → statement M
-commands-spec =
+pub keeps-master-spec : {M : Type 1} → statement M
+keeps-master-spec =
     tie.close
     (tie.spec enabled-requires master-requires ss-input-requires returns returns-2 returns-3)

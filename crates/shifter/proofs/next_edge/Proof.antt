@@ -1,10 +1,8 @@
 use Rattle.choice.proofs.Picks.{picks}
-use Rattle.spi.specs.Transfer.{nextEdge}
+use Rattle.shifter.specs.Exchange.{nextEdge}
 use borrow.Author.Needs.{needs}
-use Rattle.spi.proofs.transfer.Transfer.next_edge.Statement.{statement}
-use Rattle.spi.proofs.transfer.Transfer.next_edge.Tie as tie
-use Rattle.spi.proofs.transfer.Transfer.next_edge.Reads as reads
-use Rattle.spi.proofs.transfer.Transfer.next_edge.Lts as lts
+use Rattle.shifter.proofs.next_edge.Statement.{statement}
+use Rattle.shifter.proofs.next_edge.Tie as tie
 
 add-result : tie.Need-add-result
 add-result c = search needs
