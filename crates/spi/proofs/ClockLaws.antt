@@ -18,6 +18,7 @@ use Rattle.spi.specs.Transfer.{byteOf, edgedTransfer, edgedFlags, edgedO
 use Rattle.spi.specs.Clock.{masterEdge, masterOf, masterClock, presentedOf, slaveEdge, selectedOf, slaveOf, steppedOf, clockOf}
 use Rattle.spi.specs.Event.{isKept, edgeAt, inputOf, outOf}
 use Rattle.spi.specs.declared.clock.Levels.{Levels}
+use Rattle.spi.specs.declared.transfer.Transfer.{Transfer}
 use Rattle.spi.specs.declared.unit.Spi.{Spi}
 
 -- MISO of a slave as a clock with SS low finds it at its edge
@@ -29,17 +30,35 @@ pub presented-as : (s : Spi) → presentedOf s ≡ withMiso s (shownMiso s)
 unfolding presentedOf
 presented-as s = split (eqb (s .transfer .edges) 0) (λ z. rw z) (λ z. rw z)
 
--- what is shown is shown again
-pub shown-again : (s : Spi) → shownMiso (withMiso s (shownMiso s)) ≡ shownMiso s
-unfolding firstOut
-shown-again s =
-    split (eqb (s .transfer .edges) 0) (λ z. split (modeOf (s .control) .cpha) (λ p. rw (z, p)) (λ p. rw (z, p))) (λ z. rw z)
-
 -- the shift register and the bit that is out at the next edge
 abbrev pub viewOf : Spi → Shifter
 viewOf s = record { shift = s .transfer .shift; out = pick (isMaster (s .control)) (s .pins .mosi) (shownMiso s) }
 
--- the unit after an edge, of master and slave alike
+-- the unit after a clock without an edge, of master and slave alike
+abbrev pub waitedAs : Spi → Bool → Spi
+waitedAs s sck =
+    let m : Bool = isMaster (s .control) in
+    let t : Transfer = s .transfer in
+    record {
+      control = s .control;
+      transfer = record { shift = t .shift; received = t .received; edges = t .edges; left = pick m (record { 0 = t .left .0 - 1 }) (t .left) };
+      flags = s .flags;
+      pins = record { mosi = s .pins .mosi; miso = pick m (s .pins .miso) (shownMiso s); sck = sck };
+    }
+
+pub waited-view : (s : Spi) (sck : Bool) → viewOf (waitedAs s sck) ≡ viewOf s
+unfolding firstOut
+waited-view s sck =
+    split (isMaster (s .control)) (λ m. rw m)
+    (λ m. split (eqb (s .transfer .edges) 0) (λ z. split (modeOf (s .control) .cpha) (λ p. rw (m, z, p)) (λ p. rw (m, z, p))) (λ z. rw (m, z)))
+
+pub waited-out : (s : Spi) (sck : Bool) → outOf (waitedAs s sck) ≡ viewOf s .out
+waited-out s sck = split (isMaster (s .control)) (λ m. rw m) (λ m. rw m)
+
+pub waited-left : (s : Spi) (sck : Bool) → s .transfer .left .0 ≡ 0 → waitedAs s sck .transfer .left .0 ≡ 0
+waited-left s sck h = split (isMaster (s .control)) (λ m. rw m (omega (arith, h))) (λ m. rw m h)
+
+-- and after an edge
 abbrev pub edgedAs : Spi → Bool → Edged → Spi
 edgedAs s sck e =
     let m : Bool = isMaster (s .control) in
@@ -67,7 +86,7 @@ module _ (s : Spi) (l : Levels) (on : isEnabled (s .control) ≡ true) (kept : i
   unfolding steppedOf slaveOf
   slave-clock m = rw (on, m, not-true (l .ss) (rw m at kept))
 
-  pub master-waits : isMaster (s .control) ≡ true → edgeAt s (l .sck) ≡ false
+  master-waits : isMaster (s .control) ≡ true → edgeAt s (l .sck) ≡ false
       → clockOf s l ≡ withSck (withLeft s (record { 0 = s .transfer .left .0 - 1 })) (l .sck)
   unfolding masterOf
   master-waits m q =
@@ -83,7 +102,7 @@ module _ (s : Spi) (l : Levels) (on : isEnabled (s .control) ≡ true) (kept : i
       let one : eqb n 1 ≡ true = rw m at q in
       master-clock m ∙ rw (ne-eqb n 0 (λ z. omega (arith, eqb-true n 1 one)), one)
 
-  pub slave-waits : isMaster (s .control) ≡ false → edgeAt s (l .sck) ≡ false → clockOf s l ≡ withSck (withMiso s (shownMiso s)) (l .sck)
+  slave-waits : isMaster (s .control) ≡ false → edgeAt s (l .sck) ≡ false → clockOf s l ≡ withSck (withMiso s (shownMiso s)) (l .sck)
   unfolding selectedOf
   slave-waits m q = slave-clock m ∙ rw (rw m at q, presented-as s)
 
@@ -91,6 +110,9 @@ module _ (s : Spi) (l : Levels) (on : isEnabled (s .control) ≡ true) (kept : i
       → clockOf s l ≡ withSck (slaveEdge (withMiso s (shownMiso s)) (l .mosi)) (l .sck)
   unfolding selectedOf
   slave-edges m q = slave-clock m ∙ rw (rw m at q, presented-as s)
+
+  pub clock-waits : edgeAt s (l .sck) ≡ false → clockOf s l ≡ waitedAs s (l .sck)
+  clock-waits q = split (isMaster (s .control)) (λ m. master-waits m q ∙ rw m) (λ m. slave-waits m q ∙ rw m)
 
   pub clock-edges : edgeAt s (l .sck) ≡ true
       → clockOf s l ≡ edgedAs s (l .sck) (edgedOf (modeOf (s .control)) (byteOf (s .transfer) (viewOf s .out)) (inputOf (s .control) l))

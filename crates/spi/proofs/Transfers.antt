@@ -25,7 +25,7 @@ use Rattle.spi.specs.declared.control.Control.{Control}
 use Rattle.spi.specs.declared.transfer.Transfer.{Transfer}
 use Rattle.spi.specs.declared.unit.Spi.{Spi}
 use Rattle.spi.proofs.DivisorLaws.{half-of}
-use Rattle.spi.proofs.ClockLaws.{viewOf, edgedAs, master-waits, clock-edges}
+use Rattle.spi.proofs.ClockLaws.{viewOf, edgedAs, clock-waits, clock-edges}
 use Rattle.spi.proofs.EventLaws.{Same, write-same, read-same, vector-same}
 use Rattle.spi.proofs.WholeByte.{exchanges}
 
@@ -47,8 +47,8 @@ module _ (c : Control) where
 
   pub due-waits : (s : Spi) (l : Levels) (k j : ℕ) → Due s k (suc (suc j)) → isKept (s .control) l ≡ true → Due (clockOf s l) k (suc j)
   due-waits s l k j d kp =
-      subst (λ (t : Spi). Due t k (suc j)) (sym (master-waits s l (d .enabled) kp (d .master) (due-later s k j (l .sck) d)))
-      (record { control = d .control; enabled = d .enabled; master = d .master; edges = d .edges; left = omega (arith, d .left) })
+      subst (λ (t : Spi). Due t k (suc j)) (sym (clock-waits s l (d .enabled) kp (due-later s k j (l .sck) d)))
+      (record { control = d .control; enabled = d .enabled; master = d .master; edges = d .edges; left = rw (d .master) (omega (arith, d .left)) })
 
   pub half-pos : half c ≡ suc (half c - 1)
   half-pos = omega (arith, half-of (divisorNumber c) .low)

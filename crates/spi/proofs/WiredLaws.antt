@@ -24,8 +24,8 @@ use Rattle.spi.specs.Wired.{Pair, busOf, Turn, masterTurn, slaveTurn, bo
 use Rattle.spi.specs.declared.clock.Levels.{Levels}
 use Rattle.spi.specs.declared.control.Control.{Control}
 use Rattle.spi.specs.declared.unit.Spi.{Spi}
-use Rattle.spi.proofs.ClockLaws.{viewOf, master-waits, slave-waits}
-use Rattle.spi.proofs.Progress.{At, Over, Closed, idle-of, at-waits, at-goes, at-ends}
+use Rattle.spi.proofs.ClockLaws.{viewOf, waited-out, clock-waits}
+use Rattle.spi.proofs.Progress.{At, Over, Closed, idle-of, over-waits, at-waits, at-goes, at-ends}
 use Rattle.spi.proofs.Transfers.{Due, due-edge, due-later, due-waits, due-goes, half-pos, Begun, begun}
 use Rattle.spi.proofs.BusLaws.{master-shown, slave-shown, levelAt, no-edge, level-turns}
 
@@ -52,13 +52,13 @@ module _ (a b : Control) (w : Linked a b) where
   module _ (x y : ℕ) where
     -- a master with j edges had, n + 1 to go, and the next in d + 1 clocks
     record Going (s : Spi) (j n d : ℕ) (A : Shifter) : Type 0 where
-      at : At a s j A x
+      at : At a x true s j A
       due : Due a s j (suc d)
       sum : j + suc n ≡ 16
 
     -- a slave k edges into a byte, its bit out, which knows SCK as it was after k
     record Heard (s : Spi) (k : ℕ) (B : Shifter) : Type 0 where
-      at : At b s k B y
+      at : At b y true s k B
       miso : s .pins .miso ≡ B .out
       sck : s .pins .sck ≡ levelAt rest k
 
@@ -93,7 +93,7 @@ module _ (a b : Control) (w : Linked a b) where
       waits g =
           let kp = kept-master (p .master) l (g .at .control) refl in
           record {
-            at = at-waits a (p .master) _ _ x (g .at) l kp (not-due g) .at;
+            at = at-waits a x true (p .master) _ _ (g .at) l kp (not-due g) .0;
             due = due-waits a (p .master) l _ _ (g .due) kp;
             sum = g .sum;
           }
@@ -108,8 +108,8 @@ module _ (a b : Control) (w : Linked a b) where
           let lt : j < 15 = omega (arith, g .sum) in
           record {
             at =
-                subst (λ (o : Bool). At a (clockOf (p .master) l) (j + 1) (edgeOf m A (j + 1) o) x) (input-master h)
-                (at-goes a (p .master) j A x (g .at) l kp (is-due g) lt .at);
+                subst (λ (o : Bool). At a x true (clockOf (p .master) l) (j + 1) (edgeOf m A (j + 1) o)) (input-master h)
+                (at-goes a x true (p .master) j A (g .at) l kp (is-due g) lt .0);
             due = due-goes a (p .master) l j (g .due) kp lt;
             sum = omega (arith, g .sum);
           }
@@ -120,28 +120,21 @@ module _ (a b : Control) (w : Linked a b) where
           let last : j ≡ 15 = omega (arith, g .sum) in
           subst (λ (i : ℕ). Closed a (clockOf (p .master) l) (edgeOf m A (i + 1) (B .out))) (sym last)
           (subst (λ (o : Bool). Closed a (clockOf (p .master) l) (edgeOf m A 16 o)) (input-master h)
-          (at-ends a (p .master) j A x (g .at) l (kept-master (p .master) l (g .at .control) refl) (is-due g) last))
+          (at-ends a x true (p .master) j A (g .at) l (kept-master (p .master) l (g .at .control) refl) (is-due g) last))
 
       -- when it is through it has no edge due, and stays so
       no-more : {A : Shifter} → Closed a (p .master) A → edgeAt (p .master) (l .sck) ≡ false
       no-more i = rw (ap isMaster (i .over .control) ∙ w .master, i .over .left) refl
 
       stays : {A : Shifter} → Closed a (p .master) A → Closed a (clockOf (p .master) l) A
-      stays {A} i =
+      stays i =
           let c = i .over .control in
-          subst (λ (t : Spi). Closed a t A)
-          (sym (master-waits (p .master) l (i .over .enabled) (kept-master (p .master) l c refl) (ap isMaster c ∙ w .master) (no-more i)))
-          (record {
-            over = record {
-              control = c;
-              enabled = i .over .enabled;
-              edges = i .over .edges;
-              left = omega (arith, i .over .left);
-              received = i .over .received;
-              spif = i .over .spif;
-            };
-            out = i .out;
-          })
+          let kp = kept-master (p .master) l c refl in
+          let m = ap isMaster c ∙ w .master in
+          record {
+            over = over-waits a (p .master) _ l (i .over) kp (no-more i);
+            out = ap outOf (clock-waits (p .master) l (i .over .enabled) kp (no-more i)) ∙ waited-out (p .master) (l .sck) ∙ rw m (put-master (p .master) c (i .out));
+          }
 
       -- the slave's clock
       slave-sees : {k : ℕ} {now : Bool} → p .slave .control ≡ b → p .slave .transfer .edges ≡ k → p .slave .pins .sck ≡ levelAt rest k → r .sck ≡ now
@@ -152,8 +145,8 @@ module _ (a b : Control) (w : Linked a b) where
       hears {k} i h =
           let now : r .sck ≡ levelAt rest k = bus-sck (i .at .control) (i .at .edges) in
           let q = slave-sees (h .at .control) (h .at .edges) (h .sck) now ∙ no-edge rest k (levelAt rest k) in
-          let v = at-waits b (p .slave) k _ y (h .at) r (kept-slave (p .slave) r (h .at .control) refl) q in
-          record { at = v .at; miso = put-slave (clockOf (p .slave) r) (v .at .control) (v .out); sck = now }
+          let v = at-waits b y true (p .slave) k _ (h .at) r (kept-slave (p .slave) r (h .at .control) refl) q in
+          record { at = v .0; miso = put-slave (clockOf (p .slave) r) (v .0 .control) (v .1); sck = now }
 
       input-slave : {o : Bool} → r .mosi ≡ o → (B : Shifter) (n : ℕ) → edgeOf (modeOf b) B n (inputOf b r) ≡ edgeOf m B n o
       input-slave e B n = rw (w .slave, w .mode, e) refl
@@ -163,12 +156,12 @@ module _ (a b : Control) (w : Linked a b) where
       hears-edge {k} {n} {d} {A} {B} i h =
           let now : r .sck ≡ levelAt rest (k + 1) = bus-sck (i .at .control) (i .at .edges) in
           let q = slave-sees (h .at .control) (h .at .edges) (h .sck) now ∙ level-turns rest k in
-          let v = at-goes b (p .slave) k B y (h .at) r (kept-slave (p .slave) r (h .at .control) refl) q (omega (arith, i .sum)) in
+          let v = at-goes b y true (p .slave) k B (h .at) r (kept-slave (p .slave) r (h .at .control) refl) q (omega (arith, i .sum)) in
           let mosi : p .master .pins .mosi ≡ A .out = rw (ap isMaster (i .at .control) ∙ w .master) at (ap (λ (z : Shifter). z .out) (i .at .view)) in
           let g = input-slave (bus-mosi (i .at .control) ∙ mosi) B (k + 1) in
           record {
-            at = subst (λ (z : Shifter). At b (clockOf (p .slave) r) (k + 1) z y) g (v .at);
-            miso = put-slave (clockOf (p .slave) r) (v .at .control) (v .out ∙ ap (λ (z : Shifter). z .out) g);
+            at = subst (λ (z : Shifter). At b y true (clockOf (p .slave) r) (k + 1) z) g (v .0);
+            miso = put-slave (clockOf (p .slave) r) (v .0 .control) (v .1 ∙ ap (λ (z : Shifter). z .out) g);
             sck = now;
           }
 
@@ -178,7 +171,7 @@ module _ (a b : Control) (w : Linked a b) where
           let now : r .sck ≡ levelAt rest 0 = bus-sck (i .over .control) (i .over .edges) in
           let turns : isSckEdge rest k (levelAt rest k) (levelAt rest 0) ≡ true = rw last (level-turns rest 15) in
           let q = slave-sees (h .at .control) (h .at .edges) (h .sck) now ∙ turns in
-          let v = at-ends b (p .slave) k B y (h .at) r (kept-slave (p .slave) r (h .at .control) refl) q last in
+          let v = at-ends b y true (p .slave) k B (h .at) r (kept-slave (p .slave) r (h .at .control) refl) q last in
           let g = input-slave (bus-mosi (i .over .control) ∙ put-master (p .master) (i .over .control) (i .out)) B 16 in
           record {
             over =
@@ -192,19 +185,7 @@ module _ (a b : Control) (w : Linked a b) where
           let c = h .over .control in
           let now : r .sck ≡ levelAt rest 0 = bus-sck (i .over .control) (i .over .edges) in
           let q = slave-sees c (h .over .edges) (h .sck) now ∙ no-edge rest 0 (levelAt rest 0) in
-          subst (λ (s : Spi). Through s z)
-          (sym (slave-waits (p .slave) r (h .over .enabled) (kept-slave (p .slave) r c refl) (ap isMaster c ∙ w .slave) q))
-          (record {
-            over = record {
-              control = c;
-              enabled = h .over .enabled;
-              edges = h .over .edges;
-              left = h .over .left;
-              received = h .over .received;
-              spif = h .over .spif;
-            };
-            sck = now;
-          })
+          record { over = over-waits b (p .slave) z r (h .over) (kept-slave (p .slave) r c refl) q; sck = now }
 
     -- where the pair is: both have had k edges; the master one more; the master is through; both are. The master has
     -- n + 1 edges to go, the next in d + 1 of its clocks
@@ -312,7 +293,14 @@ wired s t v ts ms w rd e u =
     let x : ℕ = writeSpdr s v .transfer .received in
     let y : ℕ = t .transfer .received in
     let i : Going a b w x y (writeSpdr s v) 0 15 (half a - 1) A = record {
-      at = record { control = g .due .control; enabled = g .due .enabled; edges = g .due .edges; view = refl; received = refl };
+      at = record {
+        control = g .due .control;
+        enabled = g .due .enabled;
+        edges = g .due .edges;
+        view = refl;
+        received = refl;
+        down = λ d. clash refl d;
+      };
       due = g .due;
       sum = refl;
     } in
@@ -323,6 +311,7 @@ wired s t v ts ms w rd e u =
         edges = rd .idle;
         view = ap (λ (z : Bool). record { shift = t .transfer .shift; out = z }) (shows t (w .slave) rd);
         received = refl;
+        down = λ d. clash refl d;
       };
       miso = refl;
       sck = rd .rest ∙ w .cpol;

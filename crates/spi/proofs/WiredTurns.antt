@@ -6,17 +6,17 @@ use native.Mathlib.Omega.{arith}
 use lib.Dec.{eqb}
 use borrow.Author.Tests.{eqb-true, eqb-false}
 use Rattle.choice.proofs.Picks.{split, clash}
-use Rattle.shifter.proofs.ExchangeLaws.{edged-last}
-use Rattle.spi.specs.Control.{isEnabled, isMaster, modeOf, half}
-use Rattle.spi.specs.Transfer.{byteOf}
+use Rattle.shifter.specs.Edge.{edgeOf}
+use Rattle.spi.specs.Control.{isMaster, modeOf, half}
 use Rattle.spi.specs.Clock.{clockOf}
 use Rattle.spi.specs.Register.{writeSpdr}
-use Rattle.spi.specs.Event.{edgeAt, inputOf}
+use Rattle.spi.specs.Event.{isKept, edgeAt, inputOf}
 use Rattle.spi.specs.Exchange.{MayStart}
 use Rattle.spi.specs.Wired.{Pair, busOf, masterTurn, slaveTurn, bothTurn, turnOf, finalPair, masterTurns, isSeen, inTurn, atOnce, Linked, Ready, Swapped}
 use Rattle.spi.specs.declared.control.Control.{Control}
 use Rattle.spi.specs.declared.unit.Spi.{Spi}
-use Rattle.spi.proofs.ClockLaws.{viewOf, edgedAs, master-waits, clock-edges}
+use Rattle.spi.proofs.ClockLaws.{viewOf}
+use Rattle.spi.proofs.Progress.{Over, over-waits, at-ends}
 use Rattle.spi.proofs.Transfers.{Due, due-edge, due-later, due-waits, due-goes, begun}
 use Rattle.spi.proofs.WiredLaws.{kept-master, wired}
 
@@ -43,56 +43,45 @@ wired-in-turn s t v ms w rd =
 
 -- clocked at once the slave sees an edge one clock after it comes, so the edges have to be two clocks apart
 module _ (a b : Control) (w : Linked a b) (two : 2 ≤ half a) where
-  -- a master with none due
-  record Rested (s : Spi) : Type 0 where
-    control : s .control ≡ a
-    enabled : isEnabled (s .control) ≡ true
-    master : isMaster (s .control) ≡ true
-    left : s .transfer .left .0 ≡ 0
-
   module _ (p : Pair) where
-    rested-edge : Rested (p .master) → edgeAt (p .master) (busOf p true .sck) ≡ false
-    rested-edge i = rw (i .master, i .left) refl
+    kept : p .master .control ≡ a → isKept (p .master .control) (busOf p true) ≡ true
+    kept c = kept-master a b w (p .master) (busOf p true) c refl
 
-    rested-clock : Rested (p .master) → Rested (clockOf (p .master) (busOf p true))
-    rested-clock i =
-        subst (λ (t : Spi). Rested t)
-        (sym (master-waits (p .master) (busOf p true) (i .enabled) (kept-master a b w (p .master) (busOf p true) (i .control) refl) (i .master) (rested-edge i)))
-        (record { control = i .control; enabled = i .enabled; master = i .master; left = omega (arith, i .left) })
+    over-edge : {z : ℕ} → Over a (p .master) z → edgeAt (p .master) (busOf p true .sck) ≡ false
+    over-edge o = rw (ap isMaster (o .control) ∙ w .master, o .left) refl
 
-    rested-last : {k : ℕ} → k ≡ 15 → Due a (p .master) k 1 → Rested (clockOf (p .master) (busOf p true))
-    rested-last {k} k15 d =
-        let s : Spi = p .master in
-        let e = edged-last (modeOf (s .control)) (byteOf (s .transfer) (viewOf s .out)) (inputOf (s .control) (busOf p true)) (d .edges ∙ k15) in
-        subst (λ (t : Spi). Rested t)
-        (sym (clock-edges s (busOf p true) (d .enabled) (kept-master a b w s (busOf p true) (d .control) refl) (due-edge a s k 1 (busOf p true .sck) d)
-        ∙ ap (edgedAs s (busOf p true .sck)) e))
-        (record { control = d .control; enabled = d .enabled; master = d .master; left = refl })
+    over-clock : {z : ℕ} → Over a (p .master) z → Over a (clockOf (p .master) (busOf p true)) z
+    over-clock o = over-waits a (p .master) _ (busOf p true) o (kept (o .control)) (over-edge o)
 
-  rested-seen : (n : ℕ) (p : Pair) → Rested (p .master) → isSeen false p (atOnce n) ≡ true
-  rested-seen zero p i = refl
-  rested-seen (suc n) p i = rw (rested-edge p i) (rested-seen n (turnOf p bothTurn) (rested-clock p i))
+    over-last : {k : ℕ} → k ≡ 15 → Due a (p .master) k 1
+        → Over a (clockOf (p .master) (busOf p true)) (edgeOf (modeOf a) (viewOf (p .master)) 16 (inputOf a (busOf p true)) .shift)
+    over-last {k} k15 d =
+        at-ends a (p .master .transfer .received) true (p .master) k (viewOf (p .master))
+        (record { control = d .control; enabled = d .enabled; edges = d .edges; view = refl; received = refl; down = λ q. clash refl q })
+        (busOf p true) (kept (d .control)) (due-edge a (p .master) k 1 (busOf p true .sck) d) k15 .over
+
+  over-seen : {z : ℕ} (n : ℕ) (p : Pair) → Over a (p .master) z → isSeen false p (atOnce n) ≡ true
+  over-seen zero p o = refl
+  over-seen (suc n) p o = rw (over-edge p o) (over-seen n (turnOf p bothTurn) (over-clock p o))
 
   -- the last edge is seen at the clock after it
-  rested-after : (n : ℕ) (p : Pair) → Rested (p .master) → 1 ≤ n → isSeen true p (atOnce n) ≡ true
-  rested-after zero p i h = absurd (omega arith)
-  rested-after (suc n) p i h = rw (rested-edge p i) (rested-seen n (turnOf p bothTurn) (rested-clock p i))
+  last-seen : {z : ℕ} (n : ℕ) (p : Pair) → Over a (p .master) z → 1 ≤ n → isSeen true p (atOnce n) ≡ true
+  last-seen zero p o h = absurd (omega arith)
+  last-seen (suc n) p o h = rw (over-edge p o) (over-seen n (turnOf p bothTurn) (over-clock p o))
 
   -- n clocks are enough for the edges after the k-th, the next of which is in j + 1
   at-once-seen : (n : ℕ) (unseen : Bool) (p : Pair) (k j : ℕ) → Due a (p .master) k (suc j) → k ≤ 15 → (unseen ≡ true → 1 ≤ j)
       → suc (suc j) + (15 - k) * half a ≤ n → isSeen unseen p (atOnce n) ≡ true
   at-once-seen zero unseen p k j d hk hu e = absurd (omega arith)
   at-once-seen (suc n) unseen p k (suc j) d hk hu e =
-      let kp = kept-master a b w (p .master) (busOf p true) (d .control) refl in
       rw (due-later a (p .master) k j (busOf p true .sck) d)
-      (at-once-seen n false (turnOf p bothTurn) k j (due-waits a (p .master) (busOf p true) k j d kp) hk (λ z. clash z refl) (omega arith))
+      (at-once-seen n false (turnOf p bothTurn) k j (due-waits a (p .master) (busOf p true) k j d (kept p (d .control))) hk (λ z. clash z refl) (omega arith))
   at-once-seen (suc n) true p k zero d hk hu e = absurd (omega (arith, hu refl))
   at-once-seen (suc n) false p k zero d hk hu e =
-      let kp = kept-master a b w (p .master) (busOf p true) (d .control) refl in
       rw (due-edge a (p .master) k 1 (busOf p true .sck) d)
-      (split (eqb k 15) (λ z. rested-after n (turnOf p bothTurn) (rested-last p (eqb-true k 15 z) d) (omega (arith, e)))
+      (split (eqb k 15) (λ z. last-seen n (turnOf p bothTurn) (over-last p (eqb-true k 15 z) d) (omega (arith, e)))
       (λ z. let lt : k < 15 = omega (arith, eqb-false k 15 z) in
-      at-once-seen n true (turnOf p bothTurn) (k + 1) (half a - 1) (due-goes a (p .master) (busOf p true) k d kp lt) (omega arith) (λ _. omega (arith, two))
+      at-once-seen n true (turnOf p bothTurn) (k + 1) (half a - 1) (due-goes a (p .master) (busOf p true) k d (kept p (d .control)) lt) (omega arith) (λ _. omega (arith, two))
       (omega (arith, e, more (15 - k) (15 - (k + 1)) (omega arith), two))))
     where
       more : (x y : ℕ) → x ≡ suc y → x * half a ≡ half a + y * half a
