@@ -17,7 +17,7 @@ use Rattle.usart.specs.Settings.{sizeOf, parityOf}
 use Rattle.usart.specs.Write.{formattedOf, writeC, isReservedC, sizedC, timedOf, transmittedOf, vectorOf}
 use Rattle.usart.specs.Event.{finalOf}
 use Rattle.usart.specs.Line.{lineLevel}
-use Rattle.usart.specs.Receiving.{Delivered}
+use Rattle.usart.specs.Receiving.{heldBy, readsOf, entriesOf, Delivered}
 use Rattle.usart.specs.Sending.{waiting, tickFrom, framesOf, takenOf, notBefore, dataIn, outputsOf, Sends}
 use Rattle.usart.specs.Marked.{sending, statusBits, zeros, M8}
 use Rattle.usart.proofs.ClosedLists.{driven, driven-drives}
@@ -27,7 +27,7 @@ pub m8 : (v : ℕ) → M8 v
 unfolding sending statusBits zeros leftOf steppedOf listenedOf enabledOf isBusy clockOf isDriven outputOf formattedOf sizeOf transmittedOf frameBit sumOfBits
 m8 v = record { start = refl; full = refl; udre = refl; txc = refl }
 
-pub delivered : Delivered 813 100 frames listening received
+pub delivered : Delivered 813 100 frames (listening .format) (readsOf listening received) (heldBy (finalOf listening received)) (entriesOf 0 listening received)
 unfolding listening frames level run received lineLevel frameBit sumOfBits leftOf steppedOf idleOf castOf nextBitOf shiftedOf decidedOf votedOf sampledOf samplerOf listenedOf isBusy clockOf sizeOf parityOf formattedOf writeC isReservedC sizedC timedOf transmittedOf vectorOf parityError
 delivered = record { frames = refl; inTime = ((lit≤ tt, lit< tt), ((lit≤ tt, lit< tt), tt)) }
 
@@ -36,7 +36,7 @@ remains : map dataIn (notBefore (length (outputsOf loaded handed)) (framesOf loa
 unfolding loaded clocks handed tickFrom frameBit sumOfBits leftOf steppedOf listenedOf isBusy clockOf isDriven outputOf transmittedOf
 remains = refl
 
-pub sent : Sends loaded handed
+pub sent : Sends loaded (takenOf 0 loaded handed) (outputsOf loaded handed) (finalOf loaded handed .sender .buffer)
 unfolding loaded clocks handed tickFrom driven lineLevel frameBit sumOfBits leftOf steppedOf listenedOf isBusy clockOf isDriven outputOf transmittedOf
 sent = record {
   remains = remains;

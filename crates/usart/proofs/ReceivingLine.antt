@@ -20,7 +20,7 @@ use Rattle.usart.specs.Sampler.{samplerOf}
 use Rattle.usart.specs.Unit.{clockOf}
 use Rattle.usart.specs.Event.{Event, clock, write, read, vector, nextOf, finalOf, OnlyData, levelsOf}
 use Rattle.usart.specs.Line.{Sent, lineLevel, Fits, EndedBy, Shows}
-use Rattle.usart.specs.Receiving.{heldBy, isComplete, outcomeAt, Free, Hears, Seen, seenIn, takenBy, readsOf, clean, entriesOf, InTime, Delivered}
+use Rattle.usart.specs.Receiving.{heldBy, isComplete, outcomeAt, Free, LineOn, Hears, Seen, seenIn, takenBy, readsOf, clean, entriesOf, InTime, Delivered}
 use Rattle.usart.specs.declared.sampler.Sampler.{Sampler}
 use Rattle.usart.specs.declared.sampler.Sampler.the-variants.{Idle, Receiving}
 use Rattle.usart.specs.declared.sampler.Outcome.{Outcome}
@@ -293,20 +293,22 @@ module _ (f : Format) (ubrr P Q : ℕ) (R : Rates (firstVote f) (ubrr + 1) P Q (
   claim (read Udr0 ∷ es) = popped es (claim es)
 
 -- exactly the line's frames come out, in order, clean and in time
-pub receives : (P Q : ℕ) (fs : List Sent) (u : Usart) (es : List Event) → Hears P Q fs u es → Delivered P Q fs u es
+pub receives : (P Q : ℕ) (fs : List Sent) (u : Usart) (es : List Event) → Hears P Q fs u es
+    → Delivered P Q fs (u .format) (readsOf u es) (heldBy (finalOf u es)) (entriesOf 0 u es)
 receives P Q fs u es h =
     let f : Format = u .format in
-    let fr : From (wordBits f) P Q 0 fs = spaced-from (wordBits f) P Q (h .p1) fs (h .spaced) in
-    let d = claim f (u .baud .ubrr) P Q (rates f (u .baud .ubrr) P Q (h .p1) (h .q1) (h .within)) es fs 0 0 u 0 (record {
+    let l : LineOn P Q fs f (u .baud .ubrr) (levelsOf es) = h .line in
+    let fr : From (wordBits f) P Q 0 fs = spaced-from (wordBits f) P Q (l .p1) fs (l .spaced) in
+    let d = claim f (u .baud .ubrr) P Q (rates f (u .baud .ubrr) P Q (l .p1) (l .q1) (l .within)) es fs 0 0 u 0 (record {
       stays = record { format = refl; rate = refl; rxen = h .ready .enabled };
       noLoss = h .ready .noLoss;
       from = fr;
-      fits = h .fits;
+      fits = l .fits;
       inv = start fs;
-      shows = h .shows;
+      shows = l .shows;
       only = h .onlyData;
       free = h .free;
-      ended = subst (λ (n : ℕ). AllEnded (wordBits f) P Q n fs) (omega arith) (all-ended (wordBits f) P Q (length (levelsOf es)) 0 fs fr (h .ended));
+      ended = subst (λ (n : ℕ). AllEnded (wordBits f) P Q n fs) (omega arith) (all-ended (wordBits f) P Q (length (levelsOf es)) 0 fs fr (l .ended));
     }) in
     record { frames = d .frames ∙ ap (λ (p : Places). map seenIn (heldIn p) ++ map clean fs) (h .ready .empty); inTime = d .inTime }
   where

@@ -450,11 +450,11 @@ module _ (first : Usart) where
       record { fits = r .fits; drives = r .drives; remains = r .remains }
 
 -- TxD is a line of demand 3, of exactly the frames that the buffer held or took, each begun at its tick
-pub sends : (u : Usart) (es : List Event) → MaySend u es → Sends u es
+pub sends : (u : Usart) (es : List Event) → MaySend u es → Sends u (takenOf 0 u es) (outputsOf u es) (finalOf u es .sender .buffer)
 sends u es h =
     let f : Format = u .format in
     let ts : List Taken = ahead 0 (u .sender .buffer) (takenOf 0 u es) in
-    let r = claim u es [] 0 0 u (record { format = refl; rate = refl; txen = h .enabled }) (phase-first (u .baud)) (resting (h .resting) (omega arith)) (h .buffer) (h .onlyData) in
+    let r = claim u es [] 0 0 u (record { format = refl; rate = refl; txen = h .atRest .enabled }) (phase-first (u .baud)) (resting (h .atRest .resting) (omega arith)) (h .buffer) (h .onlyData) in
     let e : 0 + length (outputsOf u es) ≡ length (outputsOf u es) = omega arith in
     record {
       fits = r .fits;

@@ -1,10 +1,9 @@
 -- The line theorems are not empty: closed lists that meet every premise. Demand 3's has two frames, at unequal
 -- crystals, with reads, a write of UDR0, refused accesses and a vector among the clocks; the sender's has a byte in the
 -- buffer at first and one that is written. What comes of them is computed in `Cases.antt`.
-use mathlib.Core.Path.{_≡_, refl}
-use Prim.Native.Nat.{ℕ}
-use native.Mathlib.Omega.{arith}
+use mathlib.Core.Path.{refl}
 use lib.Dec.{lit≤, lit<}
+use Rattle.choice.proofs.Picks.{clash}
 use Rattle.frame.specs.Parity.{sumOfBits}
 use Rattle.frame.specs.Word.{frameBit, parityError}
 use Rattle.usart.specs.Baud.{leftOf}
@@ -25,14 +24,16 @@ pub witness : Hears 813 100 frames listening received
 unfolding listening frames level run received shown free room bool-eqb lineLevel frameBit sumOfBits leftOf steppedOf idleOf castOf nextBitOf shiftedOf decidedOf votedOf sampledOf samplerOf listenedOf isBusy clockOf sizeOf parityOf formattedOf writeC isReservedC sizedC timedOf transmittedOf vectorOf parityError
 witness = record {
   ready = record { enabled = refl; idle = refl; empty = refl; noLoss = refl; counter = lit≤ tt };
-  onlyData = (λ _. refl, (λ _. refl, (λ e. absurd (let z : _≡_ {A = ℕ} 0 1 = cc in omega arith), tt)));
-  p1 = lit≤ tt;
-  q1 = lit≤ tt;
-  within = (lit≤ tt, lit≤ tt);
-  fits = (lit< tt, (lit< tt, tt));
-  spaced = (lit≤ tt, (tt, tt));
-  shows = shown-shows level 0 (levelsOf received) refl;
-  ended = lit≤ tt;
+  onlyData = (λ _. refl, (λ _. refl, (clash refl, tt)));
+  line = record {
+    p1 = lit≤ tt;
+    q1 = lit≤ tt;
+    within = (lit≤ tt, lit≤ tt);
+    fits = (lit< tt, (lit< tt, tt));
+    spaced = (lit≤ tt, (tt, tt));
+    shows = shown-shows level 0 (levelsOf received) refl;
+    ended = lit≤ tt;
+  };
   free = free-free listening received refl;
 }
 
@@ -40,9 +41,7 @@ witness = record {
 pub sender-witness : MaySend loaded handed
 unfolding loaded clocks handed
 sender-witness = record {
-  enabled = refl;
-  resting = refl;
+  atRest = record { enabled = refl; resting = refl };
   buffer = lit< tt;
-  onlyData =
-      (λ e. absurd (let z : _≡_ {A = ℕ} 0 1 = cc in omega arith), (λ e. absurd (let z : _≡_ {A = ℕ} 0 1 = cc in omega arith), tt));
+  onlyData = (clash refl, (clash refl, tt));
 }

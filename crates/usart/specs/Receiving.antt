@@ -1,19 +1,21 @@
 -- Demand 3 at the serial unit: what is asked of the unit, the list and the line, and what comes of them.
-use Prim.Native.Nat.{ℕ, suc, _+_, _-_, _*_, _/_, _%_, _^_, _≤_, _<_}
+use Prim.Native.Nat.{ℕ, suc, _+_, _-_, _*_, _%_, _≤_, _<_}
 use mathlib.Core.Bool.{Bool, true, false}
 use mathlib.Core.List.{List, [], _∷_, _++_, map}
 use mathlib.Core.Path.{_≡_}
 use lib.Dec.{eqb, ltb}
 use lib.ListN.{length}
+use Rattle.choice.specs.Bit.{bitAt}
 use Rattle.choice.specs.Pick.{pick, digit}
-use Rattle.frame.specs.Format.{wordBits}
+use Rattle.frame.specs.Format.{samples, wordBits}
+use Rattle.frame.specs.declared.format.Format.{Format}
 use Rattle.usart.specs.Limit.{limit, Within}
 use Rattle.usart.specs.Baud.{ticks}
 use Rattle.usart.specs.Sampler.{samplerOf}
 use Rattle.usart.specs.Queue.{heldIn}
-use Rattle.usart.specs.Unit.{bitClocks, clockOf}
+use Rattle.usart.specs.Unit.{clockOf}
 use Rattle.usart.specs.Read.{readOf}
-use Rattle.usart.specs.Event.{Event, clock, write, read, vector, nextOf, finalOf, isUdr0, OnlyData, levelsOf}
+use Rattle.usart.specs.Event.{Event, clock, write, read, vector, nextOf, isUdr0, OnlyData, levelsOf}
 use Rattle.usart.specs.Line.{Sent, lineLevel, Fits, Spaced, EndedBy, Shows}
 use Rattle.usart.specs.declared.sampler.Sampler.the-variants.{Idle}
 use Rattle.usart.specs.declared.sampler.Outcome.{Outcome}
@@ -51,22 +53,23 @@ Free u (write r v ∷ es) = Free (nextOf u (write r v)) es
 Free u (read r ∷ es) = Free (nextOf u (read r)) es
 Free u (vector ∷ es) = Free (nextOf u vector) es
 
--- the line fs, of bits P/Q clocks long within the recommended limit, is what the unit's list of events shows it
+-- the line of the frames fs, of bits P/Q clocks long, is what the levels show a receiver of this format and UBRR, whose
+-- bit, S·(UBRR + 1) clocks, differs within the recommended limit
+pub record LineOn (P Q : ℕ) (fs : List Sent) (f : Format) (ubrr : ℕ) (levels : List Bool) : Type 0 where
+  pub p1 : 1 ≤ P
+  pub q1 : 1 ≤ Q
+  pub within : Within (limit (f .u2x) (wordBits f)) (samples f * (ubrr + 1) * Q) P
+  pub fits : Fits f fs
+  pub spaced : Spaced (wordBits f) P Q fs
+  pub shows : Shows (lineLevel f P Q fs) 0 levels
+  pub ended : EndedBy (wordBits f) P Q (length levels) fs
+
+-- the unit's list of events shows it this line
 pub record Hears (P Q : ℕ) (fs : List Sent) (u : Usart) (es : List Event) : Type 0 where
   pub ready : Ready u
   pub onlyData : OnlyData u es
-  pub p1 : 1 ≤ P
-  pub q1 : 1 ≤ Q
-  pub within : Within (limit (u .format .u2x) (wordBits (u .format))) (bitClocks u * Q) P
-  pub fits : Fits (u .format) fs
-  pub spaced : Spaced (wordBits (u .format)) P Q fs
-  pub shows : Shows (lineLevel (u .format) P Q fs) 0 (levelsOf es)
-  pub ended : EndedBy (wordBits (u .format)) P Q (length (levelsOf es)) fs
+  pub line : LineOn P Q fs (u .format) (u .baud .ubrr) (levelsOf es)
   pub free : Free u es
-
--- bit k of a register's value
-abbrev pub bitAt : ℕ → ℕ → ℕ
-bitAt n k = n / 2 ^ k % 2
 
 -- a frame as the firmware sees it: UDR0, and RXB8, FE, DOR and UPE
 pub record Seen : Type 0 where
@@ -122,7 +125,8 @@ InTime D P Q [] (s ∷ ss) = ⊥
 InTime D P Q (j ∷ js) [] = ⊥
 InTime D P Q (j ∷ js) (s ∷ ss) = ((s .start ≤ j) × ((j - s .start) * Q < (D + 2) * P)) × InTime D P Q js ss
 
--- the frames read, in order, then those held at the end, oldest first, are the line's, each once, in time
-pub record Delivered (P Q : ℕ) (fs : List Sent) (u : Usart) (es : List Event) : Type 0 where
-  pub frames : readsOf u es ++ map seenIn (heldBy (finalOf u es)) ≡ map clean fs
-  pub inTime : InTime (wordBits (u .format)) P Q (entriesOf 0 u es) fs
+-- the frames read, in order, then those held at the end, oldest first, are the line's, each once, and each entered in
+-- time
+pub record Delivered (P Q : ℕ) (fs : List Sent) (f : Format) (reads : List Seen) (held : List Frame) (entries : List ℕ) : Type 0 where
+  pub frames : reads ++ map seenIn held ≡ map clean fs
+  pub inTime : InTime (wordBits f) P Q entries fs

@@ -10,7 +10,7 @@ use Rattle.frame.specs.Format.{wordBits, lastBit}
 use Rattle.frame.specs.Word.{dataOf}
 use Rattle.usart.specs.Sender.{isVacant}
 use Rattle.usart.specs.Unit.{bitClocks, clockOf, outputOf}
-use Rattle.usart.specs.Event.{Event, clock, write, read, vector, nextOf, finalOf, isUdr0, OnlyData}
+use Rattle.usart.specs.Event.{Event, clock, write, read, vector, nextOf, isUdr0, OnlyData}
 use Rattle.usart.specs.Line.{Sent, lineLevel, Fits, Spaced}
 use Rattle.usart.specs.Valid.{ValidBuffer}
 use Rattle.usart.specs.declared.baud.Baud.{Baud}
@@ -19,10 +19,14 @@ use Rattle.usart.specs.declared.sender.Buffer.the-variants.{Vacant, Full
 use Rattle.usart.specs.declared.sender.ShiftRegister.the-variants.{Resting}
 use Rattle.usart.specs.declared.unit.Usart.{Usart}
 
--- enabled, nothing in shift at first; the buffer may hold a frame; any baud counter
-pub record MaySend (u : Usart) (es : List Event) : Type 0 where
+-- enabled, nothing in shift; the buffer may hold a frame; any baud counter
+pub record AtRest (u : Usart) : Type 0 where
   pub enabled : u .control .txen ≡ true
   pub resting : u .sender .shifter ≡ Resting
+
+-- so at first, and no serial register but UDR0 written
+pub record MaySend (u : Usart) (es : List Event) : Type 0 where
+  pub atRest : AtRest u
   pub buffer : ValidBuffer (u .format) (u .sender .buffer)
   pub onlyData : OnlyData u es
 
@@ -102,11 +106,11 @@ Drives w j (o ∷ os) = (o ≡ digit (w j) + 16) × Drives w (suc j) os
 abbrev pub dataIn : Sent → ℕ
 dataIn s = s .«data»
 
--- TxD is a line with Q = 1 and P = S·(UBRR + 1), of exactly the frames that the buffer held at first or took, in order,
--- each begun at its tick. The list's end may cut the last one begun, or leave in the buffer one whose tick has not
--- come, and no other
-pub record Sends (u : Usart) (es : List Event) : Type 0 where
-  pub fits : Fits (u .format) (framesOf u (takenOf 0 u es))
-  pub spaced : Spaced (wordBits (u .format)) (bitClocks u) 1 (framesOf u (takenOf 0 u es))
-  pub drives : Drives (lineLevel (u .format) (bitClocks u) 1 (framesOf u (takenOf 0 u es))) 0 (outputsOf u es)
-  pub remains : map dataIn (notBefore (length (outputsOf u es)) (framesOf u (takenOf 0 u es))) ≡ waiting (finalOf u es .sender .buffer)
+-- TxD, in the outputs, is a line with Q = 1 and P = S·(UBRR + 1), of exactly the frames that the buffer held at first or
+-- took, in order, each begun at its tick. The list's end may cut the last one begun, or leave in the buffer one whose
+-- tick has not come, and no other
+pub record Sends (u : Usart) (taken : List Taken) (outputs : List ℕ) (left : Buffer) : Type 0 where
+  pub fits : Fits (u .format) (framesOf u taken)
+  pub spaced : Spaced (wordBits (u .format)) (bitClocks u) 1 (framesOf u taken)
+  pub drives : Drives (lineLevel (u .format) (bitClocks u) 1 (framesOf u taken)) 0 outputs
+  pub remains : map dataIn (notBefore (length outputs) (framesOf u taken)) ≡ waiting left
