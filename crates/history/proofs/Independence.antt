@@ -1,10 +1,11 @@
 -- SPI traffic never changes a serial answer: what the serial side is answered is a function of the serial unit and the
 -- serial parts alone.
-use Prim.Native.Nat.{ℕ, _%_}
+use Prim.Native.Nat.{ℕ, _+_, _%_}
 use mathlib.Core.Bool.{Bool, true, false}
 use mathlib.Core.List.{List, [], _∷_, _++_, map}
 use mathlib.Core.Path.{_≡_, refl, sym, ap, ap₂, _∙_}
 use lib.Dec.{eqb}
+use lib.ListN.{length}
 use Rattle.choice.specs.Pick.{pick}
 use Rattle.usart.specs.Event.{Event, clock, write as writes, read as reads, vector as takes, nextOf, finalOf}
 use Rattle.usart.specs.Read.{readOf as serialReadOf}
@@ -28,17 +29,16 @@ use Rattle.device.specs.declared.outcome.Written.the-variants.{Refused}
 use Rattle.device.specs.declared.unit.Device.{Device}
 use Rattle.device.proofs.OutputLaws.{requests-serial}
 use Rattle.device.proofs.RegisterLaws.{answer-serial}
-use Rattle.device.proofs.SerialLaws.{write-serial, read-serial, vector-serial}
+use Rattle.device.proofs.SerialLaws.{write-serial, read-serial, vector-serial, run-serial}
 use Rattle.record.specs.Codec.{decodeOf}
 use Rattle.record.specs.declared.codec.Decoded.{Decoded}
 use Rattle.record.specs.declared.codec.Decoded.the-variants.{Accepted}
 use Rattle.record.proofs.Round.{decode-length}
 use Rattle.warpmagpie.specs.Calls.{requestsValueOn}
-use Rattle.history.specs.Call.{Call, reset, write, read, vector, run, report, recordAfter, finalRecord, Passable, deviceIn, usartOf}
-use Rattle.history.specs.Serial.{Serial as Part, event, resets, serialPart, serialParts, Answer, number, value, txd, serialAnswer, serialAnswers, requestBits, Alike, Agree}
+use Rattle.history.specs.Call.{Call, reset, write, read, vector, pass, effect, recordAfter, finalRecord, along, Passable, usartOf}
+use Rattle.history.specs.Serial.{Serial as Part, event, resets, serialPart, serialParts, Answer, number, value, txd, serialAnswer, requestBits, Alike, Agree}
 use Rattle.history.proofs.StepLaws.{nextDevice, reset-done, write-on, read-on, vector-on, induct}
-use Rattle.history.proofs.ViewLaws.{runs, runs-is, ran-serial}
-use Rattle.history.proofs.SendingLine.{txd-by}
+use Rattle.history.proofs.ViewLaws.{usart-is, txd-of}
 
 -- what a part does to the serial unit, and what it is answered
 abbrev afterPart : Usart → Part → Usart
@@ -97,10 +97,6 @@ clocks-at : (u : Usart) (ls : List ℕ) → map txd (outputsAt u (clocksOf ls)) 
 clocks-at u [] = refl
 clocks-at u (l ∷ ls) = ap (_∷_ (txd (outputOf (clockOf u (rxdIn l))))) (clocks-at (clockOf u (rxdIn l)) ls)
 
-run-at : (u : Usart) (t : Bool) (ls : List ℕ) → map txd (outputsAt u (pick t (clocksOf ls) [])) ≡ answersAt u (map event (pick t (clocksOf ls) []))
-run-at u true ls = clocks-at u ls
-run-at u false ls = refl
-
 answer-by : (s : List ℕ) (d : Device) → decodeOf s ≡ Accepted d → (c : Call) → serialAnswer s c ≡ answersAt (d .usart) (serialPart s c)
 answer-by s d h reset = ap (λ (w : Written). number (answerOf w) ∷ []) (reset-done s (decode-length s d h))
 answer-by s d h (write a v) =
@@ -108,56 +104,57 @@ answer-by s d h (write a v) =
 answer-by s d h (read a) =
     ap (λ (g : Reading). pick (isSerial (placeOf a)) (value (readAnswerOf g) (valueOf g) ∷ []) []) (read-on s d h a) ∙ read-at d (placeOf a)
 answer-by s d h (vector n) = ap (λ (w : Written). pick (eqb n 0) (number (answerOf w) ∷ []) []) (vector-on s d h n) ∙ vector-at d n
-answer-by s d h (run ls os) =
-    ap (map txd) (txd-by s d h (run ls os)) ∙ run-at (d .usart) (runs d ls os) ls
-    ∙ ap (λ (t : Bool). answersAt (d .usart) (map event (pick t (clocksOf ls) []))) (sym (runs-is s d h ls os))
-answer-by s d h report = refl
+answer-by s d h (pass p) = ap (map txd) (txd-of s d h (pass p)) ∙ clocks-at (d .usart) (effect s (pass p) .levels)
 
 -- the serial unit after each call
-part-of : (s : List ℕ) (d : Device) → decodeOf s ≡ Accepted d → (c : Call) → nextDevice d c .usart ≡ lastOf (d .usart) (serialPart s c)
-part-of s d h reset = refl
-part-of s d h (write a v) = write-serial d a v ∙ sym (last-events (d .usart) (writesAt (placeOf a) v))
-part-of s d h (read a) = read-serial d a ∙ sym (last-events (d .usart) (readsAt (placeOf a)))
-part-of s d h (vector n) = vector-serial d n ∙ sym (last-events (d .usart) (vectorsAt n))
-part-of s d h (run ls os) =
-    ran-serial d ls os ∙ sym (last-events (d .usart) (pick (runs d ls os) (clocksOf ls) []))
-    ∙ ap (λ (t : Bool). lastOf (d .usart) (map event (pick t (clocksOf ls) []))) (sym (runs-is s d h ls os))
-part-of s d h report = refl
+part-of : (s : List ℕ) (d : Device) (c : Call) → nextDevice s d c .usart ≡ lastOf (d .usart) (serialPart s c)
+part-of s d reset = refl
+part-of s d (write a v) = write-serial d a v ∙ sym (last-events (d .usart) (writesAt (placeOf a) v))
+part-of s d (read a) = read-serial d a ∙ sym (last-events (d .usart) (readsAt (placeOf a)))
+part-of s d (vector n) = vector-serial d n ∙ sym (last-events (d .usart) (vectorsAt n))
+part-of s d (pass p) = let ls = effect s (pass p) .levels in run-serial d ls ∙ sym (last-events (d .usart) (clocksOf ls))
 
-answers-view : (s : List ℕ) (d : Device) (cs : List Call) → decodeOf s ≡ Accepted d → Passable cs → serialAnswers s cs ≡ answersAt (d .usart) (serialParts s cs)
+part-is : (s : List ℕ) (d : Device) → decodeOf s ≡ Accepted d → (c : Call) → decodeOf (recordAfter s c) ≡ Accepted (nextDevice s d c)
+    → usartOf (recordAfter s c) ≡ lastOf (usartOf s) (serialPart s c)
+part-is s d h c e =
+    usart-is (recordAfter s c) (nextDevice s d c) e ∙ part-of s d c ∙ ap (λ (u : Usart). lastOf u (serialPart s c)) (sym (usart-is s d h))
+
+answers-view : (s : List ℕ) (d : Device) (cs : List Call) → decodeOf s ≡ Accepted d → Passable cs → (j : ℕ)
+    → along (λ j. serialAnswer) j s cs ≡ answersAt (usartOf s) (along (λ j. serialPart) j s cs)
 answers-view =
-    induct (λ (s : List ℕ) (d : Device) (cs : List Call). serialAnswers s cs ≡ answersAt (d .usart) (serialParts s cs))
-    (λ s d h. refl)
-    (λ s d c cs h k.
-    let rest = serialParts (recordAfter s c) cs in
-    ap₂ (_++_) (answer-by s d h c) (k ∙ ap (λ (u : Usart). answersAt u rest) (part-of s d h c)) ∙ sym (answers-append (d .usart) (serialPart s c) rest))
+    induct (λ s cs. (j : ℕ) → along (λ j. serialAnswer) j s cs ≡ answersAt (usartOf s) (along (λ j. serialPart) j s cs))
+    (λ s d h j. refl)
+    (λ s d h c cs e k j.
+    let rest = along (λ j. serialPart) (j + length (effect s c .levels)) (recordAfter s c) cs in
+    ap₂ (_++_) (answer-by s d h c ∙ ap (λ (u : Usart). answersAt u (serialPart s c)) (sym (usart-is s d h))) (k _ ∙ ap (λ (u : Usart). answersAt u rest) (part-is s d h c e))
+    ∙ sym (answers-append (usartOf s) (serialPart s c) rest))
 
-final-parts : (s : List ℕ) (d : Device) (cs : List Call) → decodeOf s ≡ Accepted d → Passable cs → usartOf (finalRecord s cs) ≡ lastOf (d .usart) (serialParts s cs)
+final-parts : (s : List ℕ) (d : Device) (cs : List Call) → decodeOf s ≡ Accepted d → Passable cs → (j : ℕ)
+    → usartOf (finalRecord s cs) ≡ lastOf (usartOf s) (along (λ j. serialPart) j s cs)
 final-parts =
-    induct (λ (s : List ℕ) (d : Device) (cs : List Call). usartOf (finalRecord s cs) ≡ lastOf (d .usart) (serialParts s cs))
-    (λ s d h. ap (λ (x : Decoded). deviceIn x .usart) h)
-    (λ s d c cs h k.
-    let rest = serialParts (recordAfter s c) cs in
-    k ∙ ap (λ (u : Usart). lastOf u rest) (part-of s d h c) ∙ sym (last-append (d .usart) (serialPart s c) rest))
+    induct (λ s cs. (j : ℕ) → usartOf (finalRecord s cs) ≡ lastOf (usartOf s) (along (λ j. serialPart) j s cs))
+    (λ s d h j. refl)
+    (λ s d h c cs e k j.
+    let rest = along (λ j. serialPart) (j + length (effect s c .levels)) (recordAfter s c) cs in
+    k _ ∙ ap (λ (u : Usart). lastOf u rest) (part-is s d h c e) ∙ sym (last-append (usartOf s) (serialPart s c) rest))
 
 -- request bits 0 to 2 are those of the serial unit
 bits-of : (s : List ℕ) (d : Device) → decodeOf s ≡ Accepted d → requestBits s ≡ serialRequests (usartOf s)
 unfolding requestsValueOn
-bits-of s d h =
-    ap (λ (x : Decoded). requestsValueOn x % 8) h ∙ requests-serial d ∙ sym (ap (λ (x : Decoded). serialRequests (deviceIn x .usart)) h)
+bits-of s d h = ap (λ (x : Decoded). requestsValueOn x % 8) h ∙ requests-serial d ∙ sym (ap serialRequests (usart-is s d h))
 
 final-bits : (s : List ℕ) (d : Device) (cs : List Call) → decodeOf s ≡ Accepted d → Passable cs
     → requestBits (finalRecord s cs) ≡ serialRequests (usartOf (finalRecord s cs))
-final-bits =
-    induct (λ (s : List ℕ) (d : Device) (cs : List Call). requestBits (finalRecord s cs) ≡ serialRequests (usartOf (finalRecord s cs))) bits-of (λ s d c cs h k. k)
+final-bits = induct (λ s cs. requestBits (finalRecord s cs) ≡ serialRequests (usartOf (finalRecord s cs))) bits-of (λ s d h c cs e k. k)
 
 pub independent : (d e : Device) (s t : List ℕ) (cs ds : List Call) → Alike d e s t cs ds → Agree s t cs ds
 independent d e s t cs ds a =
+    let one : usartOf s ≡ usartOf t = usart-is s d (a .first) ∙ a .one ∙ sym (usart-is t e (a .second)) in
     let final : usartOf (finalRecord s cs) ≡ usartOf (finalRecord t ds) =
-    final-parts s d cs (a .first) (a .passable) ∙ ap₂ lastOf (a .one) (a .same) ∙ sym (final-parts t e ds (a .second) (a .passableToo)) in
+    final-parts s d cs (a .first) (a .passable) 0 ∙ ap₂ lastOf one (a .same) ∙ sym (final-parts t e ds (a .second) (a .passableToo) 0) in
     record {
       answers =
-          answers-view s d cs (a .first) (a .passable) ∙ ap₂ answersAt (a .one) (a .same) ∙ sym (answers-view t e ds (a .second) (a .passableToo));
+          answers-view s d cs (a .first) (a .passable) 0 ∙ ap₂ answersAt one (a .same) ∙ sym (answers-view t e ds (a .second) (a .passableToo) 0);
       requests =
           final-bits s d cs (a .first) (a .passable) ∙ ap serialRequests final ∙ sym (final-bits t e ds (a .second) (a .passableToo));
       final = final;

@@ -1,29 +1,26 @@
 -- M1 to M10.
 use Prim.Native.Nat.{ℕ, zero, suc, _+_, _≤_}
-use mathlib.Core.Bool.{Bool, true, false}
+use mathlib.Core.Bool.{true, false}
 use mathlib.Core.List.{_∷_}
 use mathlib.Core.Path.{_≡_, refl, ap, subst, _∙_}
 use native.Mathlib.Omega.{arith}
 use lib.Dec.{lit≤}
-use Rattle.choice.specs.Pick.{pick}
-use Rattle.frame.specs.Format.{dataBits, parityBits}
+use Rattle.choice.specs.Bit.{bitAt}
 use Rattle.frame.specs.Parity.{sumOfBits}
 use Rattle.frame.specs.Word.{frameBit, parityError}
-use Rattle.frame.specs.declared.format.Parity.{Parity}
-use Rattle.frame.specs.declared.format.Parity.the-variants.{Off, Even, Odd}
-use Rattle.frame.specs.declared.format.Size.{Size}
-use Rattle.frame.specs.declared.format.Size.the-variants.{Five, Six, Seven, Eight, Nine}
+use Rattle.frame.specs.declared.format.Parity.the-variants.{Off, Even}
+use Rattle.frame.specs.declared.format.Size.the-variants.{Five, Nine}
+use Rattle.frame.proofs.FormatLaws.{word-bits-range, stop-bits-range}
 use Rattle.usart.specs.Baud.{leftOf}
 use Rattle.usart.specs.Bit.{BitLasts}
 use Rattle.usart.specs.Line.{lineLevel}
 use Rattle.usart.specs.Marked.{sending as unitSending, statusBits as unitBits}
 use Rattle.usart.specs.Read.{ucsr0a}
 use Rattle.usart.specs.Receiver.{listenedOf, enabledOf}
-use Rattle.usart.specs.Receiving.{bitAt}
 use Rattle.usart.specs.Sampler.{idleOf, castOf, nextBitOf, shiftedOf, decidedOf, votedOf, sampledOf, samplerOf}
 use Rattle.usart.specs.Sender.{steppedOf}
 use Rattle.usart.specs.Settings.{sizeOf}
-use Rattle.usart.specs.Unit.{isBusy, clockOf as serialClock, isDriven, outputOf}
+use Rattle.usart.specs.Unit.{isBusy, clockOf as serialClock}
 use Rattle.usart.specs.Write.{formattedOf, clearedOf, writeA, isReservedC, writeC, transmittedOf}
 use Rattle.usart.specs.declared.unit.Usart.{Usart}
 use Rattle.usart.proofs.Cases.{m8 as m8-unit}
@@ -43,29 +40,11 @@ m1 u e q = subst (λ (n : ℕ). BitLasts n u) (rw (e, q)) (bit-lasts u)
 m2 : M2
 m2 u e q = subst (λ (n : ℕ). BitLasts n u) (rw (e, q)) (bit-lasts u)
 
--- the lengths of frames, by the sizes and parities
-size-bits : (z : Size) → (5 ≤ dataBits z) × (dataBits z ≤ 9)
-size-bits Five = (lit≤ tt, lit≤ tt)
-size-bits Six = (lit≤ tt, lit≤ tt)
-size-bits Seven = (lit≤ tt, lit≤ tt)
-size-bits Eight = (lit≤ tt, lit≤ tt)
-size-bits Nine = (lit≤ tt, lit≤ tt)
-
-parity-bits : (p : Parity) → parityBits p ≤ 1
-parity-bits Off = lit≤ tt
-parity-bits Even = lit≤ tt
-parity-bits Odd = lit≤ tt
-
-stop-bits : (b : Bool) → (1 ≤ pick b 2 1) × (pick b 2 1 ≤ 2)
-stop-bits true = (lit≤ tt, lit≤ tt)
-stop-bits false = (lit≤ tt, lit≤ tt)
-
 m4 : M4
 m4 = (
   λ f.
-      let z = size-bits (f .size) in
-      let p = parity-bits (f .parity) in
-      let s = stop-bits (f .usbs) in (omega (arith, z .0, s .0), omega (arith, z .1, s .1)),
+      let d = word-bits-range f in
+      let s = stop-bits-range f in (omega (arith, d .0, s .0), omega (arith, d .1, s .1)),
   (
     (record { size = Five; parity = Off; usbs = false; u2x = false }, refl),
     (record { size = Nine; parity = Even; usbs = true; u2x = false }, refl),

@@ -21,7 +21,7 @@ HasDevice s = (d : Device) × ((decodeOf s ≡ Accepted d) × Valid d)
 
 pub keeps-device : (s : List ℕ) (d : Device) (cs : List Call) → decodeOf s ≡ Accepted d → Passable cs → HasDevice (finalRecord s cs)
 keeps-device =
-    induct (λ (s : List ℕ) (d : Device) (cs : List Call). HasDevice (finalRecord s cs)) (λ s d h. (d, (h, decode-valid s d h))) (λ s d c cs h k. k)
+    induct (λ s cs. HasDevice (finalRecord s cs)) (λ s d h. (d, (h, decode-valid s d h))) (λ s d h c cs e k. k)
 
 pub reset-record : (s : List ℕ) → length s ≡ 64 → decodeOf (recordAfterReset s) ≡ Accepted resetDevice
 reset-record s e = ap (λ (w : Written). decodeOf (kept s w)) (reset-done s e) ∙ decode-record resetDevice valid-reset

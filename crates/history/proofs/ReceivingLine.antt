@@ -1,44 +1,35 @@
--- Demand 3: receiving undoes sending across two unequal crystals, for every list of calls on a record and every line within the recommended
--- rate error.
+-- Demand 3: receiving undoes sending across two unequal crystals, for every list of calls on a record and every line
+-- within the recommended rate error.
 use Prim.Native.Nat.{ℕ}
-use mathlib.Core.Bool.{Bool}
-use mathlib.Core.List.{List, _++_, map}
-use mathlib.Core.Path.{sym, ap₂, subst, _∙_}
-use lib.ListN.{length}
-use Rattle.frame.specs.Format.{wordBits}
-use Rattle.usart.specs.Line.{Sent, lineLevel, EndedBy, Shows}
-use Rattle.usart.specs.Receiving.{Seen, heldBy, seenIn, InTime, Hears as HearsAt, Delivered as DeliveredAt}
-use Rattle.usart.specs.declared.unit.Usart.{Usart}
+use mathlib.Core.List.{List}
+use mathlib.Core.Path.{sym, ap, subst}
+use Rattle.usart.specs.Event.{finalOf}
+use Rattle.usart.specs.Line.{Sent}
+use Rattle.usart.specs.Receiving.{heldBy, LineOn, Delivered, readsOf as readsIn, entriesOf as entriesAt}
 use Rattle.usart.proofs.ReceivingLine.{receives as receives-at}
 use Rattle.device.specs.declared.unit.Device.{Device}
-use Rattle.history.specs.Call.{Call}
-use Rattle.history.specs.Receiving.{Hears, Delivered}
-use Rattle.history.proofs.ViewLaws.{viewOf, final-view}
+use Rattle.history.specs.Call.{Call, finalRecord, deviceIn, deviceOf, usartOf}
+use Rattle.history.specs.Receiving.{Hears, readsOf, entriesOf}
+use Rattle.history.proofs.ViewLaws.{viewOf, all-act, final-view}
 use Rattle.history.proofs.ReceivingView.{rxd-view, only-view, free-view, reads-view, entries-view}
 
-pub receives : (P Q : ℕ) (fs : List Sent) (d : Device) (s : List ℕ) (cs : List Call) → Hears P Q fs d s cs → Delivered P Q fs d s cs
+pub receives : (P Q : ℕ) (fs : List Sent) (d : Device) (s : List ℕ) (cs : List Call) → Hears P Q fs d s cs
+    → Delivered P Q fs (d .usart .format) (readsOf s cs) (heldBy (usartOf (finalRecord s cs))) (entriesOf s cs)
 receives P Q fs d s cs h =
-    let f = d .usart .format in
-    let es = viewOf d cs in
-    let v = h .valid in
-    let p = h .passable in
-    let o = h .onlyData in
-    let e = rxd-view s d cs v p o in
-    let at : HearsAt P Q fs (d .usart) es = record {
-      ready = h .ready;
-      onlyData = only-view s d cs v p o;
-      p1 = h .p1;
-      q1 = h .q1;
-      within = h .within;
-      fits = h .fits;
-      spaced = h .spaced;
-      shows = subst (λ (ls : List Bool). Shows (lineLevel f P Q fs) 0 ls) e (h .shows);
-      ended = subst (λ (ls : List Bool). EndedBy (wordBits f) P Q (length ls) fs) e (h .ended);
-      free = free-view s d cs v p o (h .free);
-    } in
-    let r : DeliveredAt P Q fs (d .usart) es = receives-at P Q fs (d .usart) es at in
-    record {
-      frames =
-          ap₂ (λ (xs : List Seen) (u : Usart). xs ++ map seenIn (heldBy u)) (reads-view s d cs v p o) (final-view s d cs v p o) ∙ r .frames;
-      inTime = subst (λ (js : List ℕ). InTime (wordBits f) P Q js fs) (sym (entries-view s d cs v p o 0)) (r .inTime);
-    }
+    let same = ap deviceIn (h .valid) in
+    subst (λ (x : Device). Delivered P Q fs (x .usart .format) (readsOf s cs) (heldBy (usartOf (finalRecord s cs))) (entriesOf s cs)) same
+    (received (subst (λ (x : Device). Hears P Q fs x s cs) (sym same) h))
+  where
+    received : Hears P Q fs (deviceOf s) s cs
+        → Delivered P Q fs (usartOf s .format) (readsOf s cs) (heldBy (usartOf (finalRecord s cs))) (entriesOf s cs)
+    received h =
+        let u = usartOf s in
+        let es = viewOf s cs in
+        let a = all-act s (deviceOf s) cs (h .valid) (h .passable) (h .onlyData) in
+        let r : Delivered P Q fs (u .format) (readsIn u es) (heldBy (finalOf u es)) (entriesAt 0 u es) = receives-at P Q fs u es (record {
+          ready = h .ready;
+          onlyData = only-view s cs a;
+          line = subst (LineOn P Q fs (u .format) (u .baud .ubrr)) (rxd-view s cs a) (h .line);
+          free = free-view s cs a (h .free);
+        }) in
+        rw (reads-view s cs a, final-view s cs a, entries-view s cs a) r

@@ -34,9 +34,8 @@ use Rattle.record.specs.declared.codec.Decoded.{Decoded}
 use Rattle.record.specs.declared.codec.Decoded.the-variants.{Accepted, Refused as NoDevice}
 use Rattle.record.proofs.Round.{record-decode}
 use Rattle.warpmagpie.specs.Calls.{kept, shown, keptByRead, resetOn, writeOn, readOn, readAnswer, readValue, vectorOn, runOn, outputsOn, runAnswer, recordAfterRun, outputsAfterRun, requestsAnswerOn, requestsAnswer, requestsValueOn, requestsValue}
-use Rattle.history.specs.Call.{Call, reset, write, read, vector, run, report, answerTo, recordAfter, PassableCall, deviceIn}
-use Rattle.history.specs.Table.{isNoDevice, isWrongLength, isNoPlace, isNowhere, isNoVector, reservedAt, unmodelledAt, underWayAt, areUneven, hasHighLevel, isUnrequested, tableOf}
-use Rattle.history.proofs.StepLaws.{run-on}
+use Rattle.history.specs.Call.{run, query, Call, reset, write, read, vector, pass, effect, recordAfter, deviceIn}
+use Rattle.history.specs.Table.{isNoDevice, isWrongLength, isNoPlace, isNowhere, isNoVector, reservedAt, unmodelledAt, underWayAt, areUneven, hasHighLevel, isUnrequested, Numbers}
 
 -- writes
 write-in : (d : Device) (p : Place) (v : ℕ) → v < 256
@@ -130,13 +129,15 @@ report-table (Accepted d) = refl
 report-table NoDevice = refl
 
 -- each number is given exactly when the table says
-pub numbered : (s : List ℕ) (c : Call) → PassableCall c → answerTo s c ≡ tableOf s c
-numbered s reset p = reset-table s
-numbered s (write a v) p = write-table (decodeOf s) a v p
-numbered s (read a) p = read-table (decodeOf s) a
-numbered s (vector n) p = vector-table (decodeOf s) n
-numbered s (run ls os) p = run-table (decodeOf s) ls os
-numbered s report p = report-table (decodeOf s)
+pub numbered : (s : List ℕ) → Numbers s
+numbered s = record {
+  reset = reset-table s;
+  write = write-table (decodeOf s);
+  read = read-table (decodeOf s);
+  vector = vector-table (decodeOf s);
+  run = run-table (decodeOf s);
+  report = report-table (decodeOf s);
+}
 
 -- every refusal leaves the record untouched
 kept-refused : (s : List ℕ) (w : Written) → (answerOf w ≡ 0 → ⊥) → kept s w ≡ s
@@ -147,13 +148,13 @@ kept-unread : (s : List ℕ) (g : Reading) → (readAnswerOf g ≡ 0 → ⊥) �
 kept-unread s (Value v d) f = absurd (f refl)
 kept-unread s (NoValue r) f = refl
 
-pub refused-keeps : (s : List ℕ) (c : Call) → (answerTo s c ≡ 0 → ⊥) → recordAfter s c ≡ s
+pub refused-keeps : (s : List ℕ) (c : Call) → (effect s c .answer ≡ 0 → ⊥) → recordAfter s c ≡ s
 refused-keeps s reset f = kept-refused s (resetOn s) f
 refused-keeps s (write a v) f = kept-refused s (writeOn (decodeOf s) a v) f
 refused-keeps s (read a) f = kept-unread s (readOn (decodeOf s) a) f
 refused-keeps s (vector n) f = kept-refused s (vectorOn (decodeOf s) n) f
-refused-keeps s (run ls os) f = kept-refused s (runOn (decodeOf s) ls os) f
-refused-keeps s report f = refl
+refused-keeps s (pass (run ls os)) f = kept-refused s (runOn (decodeOf s) ls os) f
+refused-keeps s (pass (query q)) f = refl
 
 -- .. and the output slice
 shown-refused : (os new : List ℕ) (w : Written) → (answerOf w ≡ 0 → ⊥) → shown os new w ≡ os
@@ -182,7 +183,7 @@ refused-report s f = no-report (decodeOf s) f
 -- a run of no clocks is done and changes nothing
 none-run : (s : List ℕ) (d : Device) → decodeOf s ≡ Accepted d → runOn (decodeOf s) [] [] ≡ Done d
 unfolding runOn areLevels ranOf
-none-run s d h = run-on s d h [] []
+none-run s d h = ap (λ (x : Decoded). runOn x [] []) h
 
 none-shown : (x : Decoded) → outputsOn x [] ≡ []
 unfolding outputsOn outputsOf

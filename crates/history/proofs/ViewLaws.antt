@@ -1,91 +1,115 @@
 -- The serial view of a history: the serial unit's events. What the statements say of calls on a record is what the
 -- unit's own say of them.
 use Prim.Native.Nat.{ℕ, _+_}
-use mathlib.Core.Bool.{Bool, true, false}
-use mathlib.Core.List.{List, [], _∷_, _++_}
+use mathlib.Core.List.{List, [], _∷_, _++_, map}
 use mathlib.Core.Path.{_≡_, refl, sym, ap, ap₂, _∙_}
-use lib.Dec.{eqb}
+use native.Mathlib.Omega.{arith}
 use lib.ListN.{length}
-use Rattle.choice.specs.Pick.{pick}
-use Rattle.usart.specs.Event.{Event, finalOf}
+use Rattle.usart.specs.Event.{Event, write as writes, read as reads, vector as takes, finalOf, levelsOf}
+use Rattle.usart.specs.Sending.{outputsOf as outputsAt}
 use Rattle.usart.specs.declared.unit.Usart.{Usart}
+use Rattle.usart.specs.declared.write.Register.{Register}
 use Rattle.usart.proofs.AppendLaws.{final-append}
 use Rattle.device.specs.Address.{placeOf}
-use Rattle.device.specs.Outcome.{answerOf, settled}
-use Rattle.device.specs.Run.{ranOf, areLevels}
+use Rattle.device.specs.Output.{txdBits}
+use Rattle.device.specs.Run.{outputsOf}
 use Rattle.device.specs.Serial.{clocksOf, writesAt, readsAt, vectorsAt}
-use Rattle.answer.specs.declared.Refusal.the-variants.{Length, Level}
-use Rattle.device.specs.declared.outcome.Written.{Written}
-use Rattle.device.specs.declared.outcome.Written.the-variants.{Done, Refused}
 use Rattle.device.specs.declared.unit.Device.{Device}
-use Rattle.device.proofs.SerialLaws.{write-serial, read-serial, vector-serial, run-serial}
+use Rattle.device.proofs.SerialLaws.{write-serial, read-serial, vector-serial, run-serial, outputs-serial, writes-are, reads-are, vectors-are}
 use Rattle.record.specs.Codec.{decodeOf}
 use Rattle.record.specs.declared.codec.Decoded.{Decoded}
 use Rattle.record.specs.declared.codec.Decoded.the-variants.{Accepted}
-use Rattle.warpmagpie.specs.Calls.{runOn}
-use Rattle.history.specs.Call.{Call, reset, write, read, vector, run, report, finalRecord, Passable, deviceIn, usartOf, OnlyDataCall, OnlyData, isRun}
-use Rattle.history.proofs.StepLaws.{nextDevice, run-on, induct}
-
--- a run on a record of d is done
-abbrev pub runs : Device → List ℕ → List ℕ → Bool
-runs d ls os = eqb (answerOf (runOn (Accepted d) ls os)) 0
+use Rattle.history.specs.Call.{Call, reset, write, read, vector, pass, effect, recordAfter, finalRecord, along, Throughout, Passable, deviceIn, usartOf, OnlyDataCall, OnlyData}
+use Rattle.history.proofs.StepLaws.{passes, nextDevice, induct}
 
 -- the events of a call; a reset is none
-abbrev pub eventsOf : Device → Call → List Event
-eventsOf d reset = []
-eventsOf d (write a v) = writesAt (placeOf a) v
-eventsOf d (read a) = readsAt (placeOf a)
-eventsOf d (vector n) = vectorsAt n
-eventsOf d (run ls os) = pick (runs d ls os) (clocksOf ls) []
-eventsOf d report = []
+abbrev pub eventsOf : List ℕ → Call → List Event
+eventsOf s reset = []
+eventsOf s (write a v) = writesAt (placeOf a) v
+eventsOf s (read a) = readsAt (placeOf a)
+eventsOf s (vector n) = vectorsAt n
+eventsOf s (pass p) = clocksOf (effect s (pass p) .levels)
 
-abbrev pub viewOf : Device → List Call → List Event
-viewOf d [] = []
-viewOf d (c ∷ cs) = eventsOf d c ++ viewOf (nextDevice d c) cs
+abbrev pub viewOf : List ℕ → List Call → List Event
+viewOf s [] = []
+viewOf s (c ∷ cs) = eventsOf s c ++ viewOf (recordAfter s c) cs
 
-pub runs-is : (s : List ℕ) (d : Device) → decodeOf s ≡ Accepted d → (ls os : List ℕ) → isRun s ls os ≡ runs d ls os
-runs-is s d h ls os = ap (λ (w : Written). eqb (answerOf w) 0) (run-on s d h ls os)
+-- what holds of clocks, by their levels, and of any access of a serial register holds of a call's events, by its levels
+pub events-are : (P : List ℕ → List Event → Type 0) → ((ls : List ℕ) → P ls (clocksOf ls)) → ((r : Register) (v : ℕ) → P [] (writes r v ∷ []))
+    → ((r : Register) → P [] (reads r ∷ [])) → P [] (takes ∷ []) → (s : List ℕ) (c : Call) → P (effect s c .levels) (eventsOf s c)
+events-are P clocks wr rd ve s reset = clocks []
+events-are P clocks wr rd ve s (write a v) = writes-are (P []) v (clocks []) (λ r. wr r v) (placeOf a)
+events-are P clocks wr rd ve s (read a) = reads-are (P []) (clocks []) rd (placeOf a)
+events-are P clocks wr rd ve s (vector n) = vectors-are (P []) (clocks []) ve n
+events-are P clocks wr rd ve s (pass p) = clocks (effect s (pass p) .levels)
 
-run-in : (d : Device) (a b : Bool) (ls : List ℕ)
-    → settled d (pick a (pick b (Done (ranOf d ls)) (Refused Level)) (Refused Length)) .usart
-    ≡ finalOf (d .usart) (pick (eqb (answerOf (pick a (pick b (Done (ranOf d ls)) (Refused Level)) (Refused Length))) 0) (clocksOf ls) [])
-run-in d true true ls = run-serial d ls
-run-in d true false ls = refl
-run-in d false b ls = refl
+-- a call passes as many clocks as its events have
+clocks-as-many : (ls : List ℕ) → length ls ≡ length (levelsOf (clocksOf ls))
+clocks-as-many [] = refl
+clocks-as-many (l ∷ ls) = omega (arith, clocks-as-many ls)
 
-pub ran-serial : (d : Device) (ls os : List ℕ) → nextDevice d (run ls os) .usart ≡ finalOf (d .usart) (eventsOf d (run ls os))
-unfolding runOn
-ran-serial d ls os = run-in d (eqb (length os) (length ls)) (areLevels ls) ls
+as-many : (s : List ℕ) (c : Call) → length (effect s c .levels) ≡ length (levelsOf (eventsOf s c))
+as-many = events-are (λ ls es. length ls ≡ length (levelsOf es)) clocks-as-many (λ r v. refl) (λ r. refl) refl
 
--- a call but reset does to the serial unit what its events do
-pub next-usart : (s : List ℕ) (d : Device) (c : Call) → OnlyDataCall s c → nextDevice d c .usart ≡ finalOf (d .usart) (eventsOf d c)
-next-usart s d reset o = absurd o
-next-usart s d (write a v) o = write-serial d a v
-next-usart s d (read a) o = read-serial d a
-next-usart s d (vector n) o = vector-serial d n
-next-usart s d (run ls os) o = ran-serial d ls os
-next-usart s d report o = refl
+-- what a call but reset does on a record of a device: to the serial unit what its events do, on TxD what they show
+pub record Acts (s : List ℕ) (c : Call) : Type 0 where
+  pub device : Device
+  pub valid : decodeOf s ≡ Accepted device
+  pub only : OnlyDataCall s c
+  pub next : usartOf (recordAfter s c) ≡ finalOf (usartOf s) (eventsOf s c)
+  pub txd : map txdBits (effect s c .outputs) ≡ outputsAt (usartOf s) (eventsOf s c)
 
--- what of a list is made of its parts, made of a call's and of the rest's: of the rest from n clocks on, the clocks of
--- the call
-pub along-from : {A : Type 0} (N : Usart → List Event → ℕ) (Y : ℕ → Usart → List Event → List A)
-    → ((j : ℕ) (u : Usart) (es fs : List Event) → Y j u (es ++ fs) ≡ Y j u es ++ Y (j + N u es) (finalOf u es) fs)
-    → (j : ℕ) (s : List ℕ) (d : Device) (c : Call) (cs : List Call) → OnlyDataCall s c → {n : ℕ} {x y : List A} → n ≡ N (d .usart) (eventsOf d c)
-    → x ≡ Y j (d .usart) (eventsOf d c) → y ≡ Y (j + n) (nextDevice d c .usart) (viewOf (nextDevice d c) cs) → x ++ y ≡ Y j (d .usart) (viewOf d (c ∷ cs))
-along-from N Y append j s d c cs o {n} {x} {y} hn hx hy =
-    let rest = viewOf (nextDevice d c) cs in
-    ap₂ (_++_) hx (hy ∙ ap₂ (λ (m : ℕ) (u : Usart). Y (j + m) u rest) hn (next-usart s d c o)) ∙ sym (append j (d .usart) (eventsOf d c) rest)
+pub usart-is : (s : List ℕ) (d : Device) → decodeOf s ≡ Accepted d → usartOf s ≡ d .usart
+usart-is s d h = ap (λ (x : Decoded). deviceIn x .usart) h
 
--- the same of what does not count clocks
-pub along : {A : Type 0} (Y : Usart → List Event → List A) → ((u : Usart) (es fs : List Event) → Y u (es ++ fs) ≡ Y u es ++ Y (finalOf u es) fs)
-    → (s : List ℕ) (d : Device) (c : Call) (cs : List Call) → OnlyDataCall s c → {x y : List A}
-    → x ≡ Y (d .usart) (eventsOf d c) → y ≡ Y (nextDevice d c .usart) (viewOf (nextDevice d c) cs) → x ++ y ≡ Y (d .usart) (viewOf d (c ∷ cs))
-along Y append s d c cs o hx hy = along-from (λ u es. 0) (λ j. Y) (λ j. append) 0 s d c cs o {n = 0} refl hx hy
+module _ (s : List ℕ) (d : Device) (h : decodeOf s ≡ Accepted d) where
+  pub next-usart : (c : Call) → OnlyDataCall s c → nextDevice s d c .usart ≡ finalOf (d .usart) (eventsOf s c)
+  next-usart reset o = absurd o
+  next-usart (write a v) o = write-serial d a v
+  next-usart (read a) o = read-serial d a
+  next-usart (vector n) o = vector-serial d n
+  next-usart (pass p) o = run-serial d (effect s (pass p) .levels)
 
-pub final-view : (s : List ℕ) (d : Device) (cs : List Call) → decodeOf s ≡ Accepted d → Passable cs → OnlyData s cs
-    → usartOf (finalRecord s cs) ≡ finalOf (d .usart) (viewOf d cs)
-final-view =
-    induct (λ (s : List ℕ) (d : Device) (cs : List Call). OnlyData s cs → usartOf (finalRecord s cs) ≡ finalOf (d .usart) (viewOf d cs))
-    (λ s d h o. ap (λ (x : Decoded). deviceIn x .usart) h)
-    (λ s d c cs h k o.
-    k (o .1) ∙ ap (λ (u : Usart). finalOf u (viewOf (nextDevice d c) cs)) (next-usart s d c (o .0)) ∙ sym (final-append (d .usart) (eventsOf d c) (viewOf (nextDevice d c) cs)))
+  shows-outputs : (c : Call) → effect s c .outputs ≡ outputsOf d (effect s c .levels)
+  unfolding outputsOf
+  shows-outputs reset = refl
+  shows-outputs (write a v) = refl
+  shows-outputs (read a) = refl
+  shows-outputs (vector n) = refl
+  shows-outputs (pass p) = passes s d h p .outputs
+
+  pub txd-of : (c : Call) → map txdBits (effect s c .outputs) ≡ outputsAt (d .usart) (eventsOf s c)
+  unfolding outputsOf
+  txd-of c =
+      ap (map txdBits) (shows-outputs c)
+      ∙ events-are (λ ls es. map txdBits (outputsOf d ls) ≡ outputsAt (d .usart) es) (outputs-serial d) (λ r v. refl) (λ r. refl) refl s c
+
+  acts : (c : Call) → OnlyDataCall s c → decodeOf (recordAfter s c) ≡ Accepted (nextDevice s d c) → Acts s c
+  acts c o e = record {
+    device = d;
+    valid = h;
+    only = o;
+    next = usart-is (recordAfter s c) (nextDevice s d c) e ∙ next-usart c o ∙ ap (λ (u : Usart). finalOf u (eventsOf s c)) (sym (usart-is s d h));
+    txd = txd-of c ∙ ap (λ (u : Usart). outputsAt u (eventsOf s c)) (sym (usart-is s d h));
+  }
+
+pub all-act : (s : List ℕ) (d : Device) (cs : List Call) → decodeOf s ≡ Accepted d → Passable cs → OnlyData s cs → Throughout Acts s cs
+all-act = induct (λ s cs. OnlyData s cs → Throughout Acts s cs) (λ s d h o. tt) (λ s d h c cs e k o. (acts s d h c (o .0) e, k (o .1)))
+
+-- what is gathered along the calls, if of each call it is the unit's own of its events, is the unit's own of the view
+pub view : {A : Type 0} (f : ℕ → List ℕ → Call → List A) (Y : ℕ → Usart → List Event → List A) → ((j : ℕ) (u : Usart) → [] ≡ Y j u [])
+    → ((j : ℕ) (u : Usart) (es fs : List Event) → Y j u (es ++ fs) ≡ Y j u es ++ Y (j + length (levelsOf es)) (finalOf u es) fs)
+    → ((j : ℕ) (s : List ℕ) (c : Call) → Acts s c → f j s c ≡ Y j (usartOf s) (eventsOf s c))
+    → (j : ℕ) (s : List ℕ) (cs : List Call) → Throughout Acts s cs → along f j s cs ≡ Y j (usartOf s) (viewOf s cs)
+view f Y none append each j s [] a = none j (usartOf s)
+view f Y none append each j s (c ∷ cs) a =
+    let rest = viewOf (recordAfter s c) cs in
+    ap₂ (_++_) (each j s c (a .0))
+    (view f Y none append each (j + length (effect s c .levels)) (recordAfter s c) cs (a .1) ∙ ap₂ (λ (n : ℕ) (u : Usart). Y (j + n) u rest) (as-many s c) (a .0 .next))
+    ∙ sym (append j (usartOf s) (eventsOf s c) rest)
+
+pub final-view : (s : List ℕ) (cs : List Call) → Throughout Acts s cs → usartOf (finalRecord s cs) ≡ finalOf (usartOf s) (viewOf s cs)
+final-view s [] a = refl
+final-view s (c ∷ cs) a =
+    let rest = viewOf (recordAfter s c) cs in
+    final-view (recordAfter s c) cs (a .1) ∙ ap (λ (u : Usart). finalOf u rest) (a .0 .next) ∙ sym (final-append (usartOf s) (eventsOf s c) rest)

@@ -1,27 +1,24 @@
 -- The theorems over histories are not empty: at each speed a closed history that meets every premise of demand 3, with
 -- two frames at unequal crystals, and with refused calls, SPI traffic, reads, a write of UDR0, vectors and reports among
 -- the runs. The same history is one of the sender's, and one that agrees with its serial side alone, which has no report.
-use Prim.Native.Nat.{ℕ, zero, suc, _+_, _-_, _*_, _≤_}
+use Prim.Native.Nat.{ℕ, zero, suc, _+_, _-_, _*_}
 use mathlib.Core.Bool.{Bool, true, false}
 use mathlib.Core.List.{List, [], _∷_}
-use mathlib.Core.Path.{_≡_, refl, sym, ap, subst, _∙_}
-use native.Mathlib.Omega.{arith}
+use mathlib.Core.Path.{_≡_, refl}
 use lib.Dec.{lit≤, lit<}
-use lib.ListN.{length}
 use Rattle.choice.specs.Pick.{pick, digit}
-use Rattle.choice.proofs.Picks.{both}
-use Rattle.frame.specs.Format.{samples}
-use Rattle.frame.specs.Limit.{limit, Within}
+use Rattle.choice.proofs.Picks.{clash}
 use Rattle.frame.specs.Parity.{sumOfBits}
 use Rattle.frame.specs.Word.{frameBit, parityError}
 use Rattle.frame.specs.declared.format.Size.the-variants.{Five}
 use Rattle.frame.specs.declared.format.Parity.the-variants.{Even}
 use Rattle.usart.specs.Baud.{leftOf}
-use Rattle.usart.specs.Event.{levelsOf}
-use Rattle.usart.specs.Line.{Sent, lineLevel, Spaced, EndedBy, Shows}
+use Rattle.usart.specs.Line.{Sent, lineLevel}
 use Rattle.usart.specs.Receiver.{listenedOf}
+use Rattle.usart.specs.Receiving.{heldBy, LineOn, Delivered}
 use Rattle.usart.specs.Sampler.{idleOf, castOf, nextBitOf, shiftedOf, decidedOf, votedOf, sampledOf, samplerOf}
 use Rattle.usart.specs.Sender.{steppedOf}
+use Rattle.usart.specs.Sending.{Sends}
 use Rattle.usart.specs.Settings.{sizeOf, parityOf}
 use Rattle.usart.specs.Unit.{isBusy, clockOf}
 use Rattle.usart.specs.Write.{formattedOf, writeC, isReservedC, sizedC, timedOf, transmittedOf, vectorOf as serialVectorOf}
@@ -45,17 +42,18 @@ use Rattle.device.specs.Run.{ranOf, areLevels}
 use Rattle.device.specs.Serial.{vectorsAt}
 use Rattle.device.specs.Valid.{Valid}
 use Rattle.device.specs.declared.unit.Device.{Device}
-use Rattle.record.specs.Codec.{decodeOf, recordOf}
+use Rattle.record.specs.Codec.{eqList, recordOf, decodeOf}
+use Rattle.record.specs.Codes.{flagOf}
+use Rattle.record.specs.Parts.{bufferOf, shifterOf, samplerOf as samplerIn, placesOf}
+use Rattle.record.specs.Ranges.{isUndecided, disabledFits, enabledFits, dueFits, inRange}
 use Rattle.record.specs.declared.codec.Decoded.the-variants.{Accepted}
 use Rattle.record.proofs.Round.{decode-record}
-use Rattle.warpmagpie.specs.Calls.{runOn}
-use Rattle.history.specs.Call.{Call, reset, write, read, vector, run, report, Passable, OnlyData, rxdOf}
-use Rattle.history.specs.Receiving.{Hears, Delivered}
-use Rattle.history.specs.Sending.{MaySend, Sends}
-use Rattle.history.specs.Serial.{Alike, Agree}
-use Rattle.history.proofs.ViewLaws.{runs, viewOf}
-use Rattle.history.proofs.ReceivingView.{rxd-view}
-use Rattle.history.proofs.ClosedHistories.{only, onlyAll, only-all, roomy, roomyAll, roomy-all, parts, parts-are}
+use Rattle.warpmagpie.specs.Calls.{writeOn, readOn, vectorOn, runOn}
+use Rattle.history.specs.Call.{run, Call, write, read, vector, pass, report, finalRecord, Passable, usartOf, OnlyData, rxdOf}
+use Rattle.history.specs.Receiving.{Hears, readsOf, entriesOf}
+use Rattle.history.specs.Sending.{MaySend, takenOf, txdOf}
+use Rattle.history.specs.Serial.{serialParts, Alike, Agree}
+use Rattle.history.proofs.ClosedHistories.{throughout, only, only-all, roomy, roomy-all}
 use Rattle.history.proofs.ReceivingLine.{receives}
 use Rattle.history.proofs.SendingLine.{sends}
 use Rattle.history.proofs.Independence.{independent}
@@ -94,7 +92,7 @@ blank zero = []
 blank (suc n) = 0 ∷ blank n
 
 abbrev pub runFor : Bool → ℕ → ℕ → Call
-runFor u2x j n = run (line u2x j n) (blank n)
+runFor u2x j n = pass (run (line u2x j n) (blank n))
 
 -- in mid-frame: SPI set up as master with SPIE and a byte sent, every kind of refusal but 5, a byte for the sender, a
 -- read of the empty buffer; the first frame is read while the second is on the line. Reports are polled all along
@@ -103,7 +101,7 @@ calls u2x =
     let n : ℕ = 20 * scale u2x in
     let m : ℕ = 60 * scale u2x in
     runFor u2x 0 n ∷ write 0x24 0x2C ∷ report ∷ write 0x4C 0xD0 ∷ write 0x4E 0xA5 ∷ report ∷ write 0x4E 0x5A ∷ write 0x4C 0x51 ∷ read 0x4D ∷ write 0xC4 7 ∷ write 0xC2 0xC0
-    ∷ write 0xC2 0x16 ∷ write 0xC3 1 ∷ read 0x99 ∷ vector 0 ∷ vector 1 ∷ vector 7 ∷ run (1 ∷ []) [] ∷ run (33 ∷ []) (0 ∷ []) ∷ run [] [] ∷ report ∷ write 0xC6 85 ∷ read 0xC0
+    ∷ write 0xC2 0x16 ∷ write 0xC3 1 ∷ read 0x99 ∷ vector 0 ∷ vector 1 ∷ vector 7 ∷ pass (run (1 ∷ []) []) ∷ pass (run (33 ∷ []) (0 ∷ [])) ∷ pass (run [] []) ∷ report ∷ write 0xC6 85 ∷ read 0xC0
     ∷ read 0xC6 ∷ runFor u2x n m ∷ report ∷ read 0xC6 ∷ read 0x4E ∷ runFor u2x (n + m) m ∷ report ∷ []
 
 valid : (u2x : Bool) → Valid (start u2x)
@@ -113,7 +111,7 @@ valid u2x = record {
     baud = record { ubrr = lit< tt; left = lit< tt };
     sender = record { buffer = tt; shifter = tt };
     receiver = record { sampler = tt; places = tt };
-    disabled = λ e. absurd (let z : _≡_ {A = ℕ} 0 1 = cc in omega arith);
+    disabled = clash refl;
   };
   spi = valid-reset;
 }
@@ -122,86 +120,6 @@ passable : (u2x : Bool) → Passable (calls u2x)
 unfolding calls
 passable u2x =
     (tt, (lit< tt, (tt, (lit< tt, (lit< tt, (tt, (lit< tt, (lit< tt, (tt, (lit< tt, (lit< tt, (lit< tt, (lit< tt, (tt, (tt, (tt, (tt, (tt, (tt, (tt, (tt, (lit< tt, (tt, (tt, (tt, (tt, (tt, (tt, (tt, (tt, tt))))))))))))))))))))))))))))))
-
--- what is found by computing: the calls' tests, and that the done runs show the line
-unfoldable meets : Bool → Bool
-meets u2x = pick (onlyAll (start u2x) (calls u2x)) (pick (roomyAll (start u2x) (calls u2x)) (shown (level u2x) 0 (levelsOf (viewOf (start u2x) (calls u2x)))) false) false
-
-computed : (u2x : Bool) → meets u2x ≡ true
-unfolding meets only onlyAll roomy roomyAll start frames level line blank calls shown free room bool-eqb lineLevel frameBit sumOfBits leftOf steppedOf idleOf castOf nextBitOf shiftedOf decidedOf votedOf sampledOf samplerOf listenedOf isBusy clockOf sizeOf parityOf formattedOf writeC isReservedC sizedC timedOf transmittedOf serialVectorOf parityError placeOf ranOf areLevels runOn vectorOf vectorsAt spiStepped masterOf completedFlags divisorNumber writeSpcr startedOf loadedOf spiVectorOf isUnderWay edgedOf differs isRequested isSampling isPutting edgeOf outBit shiftedIn
-computed true = refl
-computed false = refl
-
-one : (u2x : Bool) → 1 ≤ 813 * scale u2x
-one true = lit≤ tt
-one false = lit≤ tt
-
-within : (u2x : Bool) → Within (limit u2x 6) (samples (start u2x .usart .format) * (0 + 1) * 100) (813 * scale u2x)
-unfolding start
-within true = (lit≤ tt, lit≤ tt)
-within false = (lit≤ tt, lit≤ tt)
-
-spaced : (u2x : Bool) → Spaced 6 (813 * scale u2x) 100 (frames u2x)
-unfolding frames
-spaced true = (lit≤ tt, (tt, tt))
-spaced false = (lit≤ tt, (tt, tt))
-
-clocks : (u2x : Bool) → length (levelsOf (viewOf (start u2x) (calls u2x))) ≡ 140 * scale u2x
-unfolding start frames level line blank calls lineLevel frameBit sumOfBits areLevels runOn vectorsAt placeOf
-clocks true = refl
-clocks false = refl
-
-ended : (u2x : Bool) → EndedBy 6 (813 * scale u2x) 100 (140 * scale u2x) (frames u2x)
-unfolding frames
-ended true = lit≤ tt
-ended false = lit≤ tt
-
--- its record is the device's, and no serial register but UDR0 is written
-accepted : (u2x : Bool) → decodeOf (recordOf (start u2x)) ≡ Accepted (start u2x)
-accepted u2x = decode-record (start u2x) (valid u2x)
-
-onlyData : (u2x : Bool) → OnlyData (recordOf (start u2x)) (calls u2x)
-unfolding meets
-onlyData u2x =
-    only-all (recordOf (start u2x)) (start u2x) (calls u2x) (accepted u2x) (passable u2x) (both (onlyAll (start u2x) (calls u2x)) _ (computed u2x) .0)
-
--- every premise of demand 3 holds of it
-pub witness : (u2x : Bool) → Hears (813 * scale u2x) 100 (frames u2x) (start u2x) (recordOf (start u2x)) (calls u2x)
-unfolding start frames level meets
-witness u2x =
-    let d = start u2x in
-    let s = recordOf d in
-    let cs = calls u2x in
-    let h = accepted u2x in
-    let p = passable u2x in
-    let o = onlyData u2x in
-    let b = both (roomyAll d cs) _ (both (onlyAll d cs) _ (computed u2x) .1) in
-    let e : levelsOf (viewOf d cs) ≡ rxdOf s cs = sym (rxd-view s d cs h p o) in
-    record {
-      valid = h;
-      ready = record { enabled = refl; idle = refl; empty = refl; noLoss = refl; counter = lit≤ tt };
-      passable = p;
-      onlyData = o;
-      p1 = one u2x;
-      q1 = lit≤ tt;
-      within = within u2x;
-      fits = (lit< tt, (lit< tt, tt));
-      spaced = spaced u2x;
-      shows = subst (Shows (level u2x) 0) e (shown-shows (level u2x) 0 (levelsOf (viewOf d cs)) (b .1));
-      ended = subst (λ (n : ℕ). EndedBy 6 (813 * scale u2x) 100 n (frames u2x)) (sym (clocks u2x) ∙ ap length e) (ended u2x);
-      free = roomy-all s d cs h p (b .0);
-    }
-
-pub witnessed : (u2x : Bool) → Delivered (813 * scale u2x) 100 (frames u2x) (start u2x) (recordOf (start u2x)) (calls u2x)
-witnessed u2x = receives (813 * scale u2x) 100 (frames u2x) (start u2x) (recordOf (start u2x)) (calls u2x) (witness u2x)
-
--- the same history is one of the sender's: it is given a byte in mid-frame
-pub sender-witness : (u2x : Bool) → MaySend (start u2x) (recordOf (start u2x)) (calls u2x)
-unfolding start
-sender-witness u2x = record { valid = accepted u2x; enabled = refl; resting = refl; passable = passable u2x; onlyData = onlyData u2x }
-
-pub sent : (u2x : Bool) → Sends (start u2x) (recordOf (start u2x)) (calls u2x)
-sent u2x = sends (start u2x) (recordOf (start u2x)) (calls u2x) (sender-witness u2x)
 
 -- the serial side of the history alone, with no SPI traffic and no report, its clocks split into other runs
 unfoldable pub quiet : Bool → List Call
@@ -215,25 +133,94 @@ quiet-passable : (u2x : Bool) → Passable (quiet u2x)
 unfolding quiet
 quiet-passable u2x = (tt, (tt, (lit< tt, (lit< tt, (lit< tt, (tt, (lit< tt, (tt, (tt, (tt, (tt, (tt, (tt, tt)))))))))))))
 
-same : (u2x : Bool) → parts (start u2x) (calls u2x) ≡ parts (start u2x) (quiet u2x)
-unfolding parts start frames level line blank calls quiet lineLevel frameBit sumOfBits areLevels runOn vectorsAt placeOf
-same true = refl
-same false = refl
+-- what is found by computing on the record: the calls' tests hold, the clocks show the line, which ends within them, and
+-- the two histories have the same serial parts
+record Found (u2x : Bool) (s : List ℕ) : Type 0 where
+  only : throughout only s (calls u2x) ≡ true
+  roomy : throughout roomy s (calls u2x) ≡ true
+  line : LineOn (813 * scale u2x) 100 (frames u2x) (start u2x .usart .format) 0 (rxdOf s (calls u2x))
+  same : serialParts s (calls u2x) ≡ serialParts s (quiet u2x)
+
+found : (u2x : Bool) → Found u2x (recordOf (start u2x))
+unfolding throughout only roomy start frames level line blank calls quiet shown free room bool-eqb lineLevel frameBit sumOfBits leftOf steppedOf idleOf castOf nextBitOf shiftedOf decidedOf votedOf sampledOf samplerOf listenedOf isBusy clockOf sizeOf parityOf formattedOf writeC isReservedC sizedC timedOf transmittedOf serialVectorOf parityError placeOf ranOf areLevels vectorOf vectorsAt spiStepped masterOf completedFlags divisorNumber writeSpcr startedOf loadedOf spiVectorOf isUnderWay edgedOf differs isRequested isSampling isPutting edgeOf outBit shiftedIn decodeOf recordOf eqList inRange isUndecided disabledFits enabledFits dueFits flagOf bufferOf shifterOf samplerIn placesOf writeOn readOn vectorOn runOn
+found true = record {
+  only = refl;
+  roomy = refl;
+  line = record {
+    p1 = lit≤ tt;
+    q1 = lit≤ tt;
+    within = (lit≤ tt, lit≤ tt);
+    fits = (lit< tt, (lit< tt, tt));
+    spaced = (lit≤ tt, (tt, tt));
+    shows = shown-shows (level true) 0 (rxdOf (recordOf (start true)) (calls true)) refl;
+    ended = lit≤ tt;
+  };
+  same = refl;
+}
+found false = record {
+  only = refl;
+  roomy = refl;
+  line = record {
+    p1 = lit≤ tt;
+    q1 = lit≤ tt;
+    within = (lit≤ tt, lit≤ tt);
+    fits = (lit< tt, (lit< tt, tt));
+    spaced = (lit≤ tt, (tt, tt));
+    shows = shown-shows (level false) 0 (rxdOf (recordOf (start false)) (calls false)) refl;
+    ended = lit≤ tt;
+  };
+  same = refl;
+}
+
+-- its record is the device's
+accepted : (u2x : Bool) → decodeOf (recordOf (start u2x)) ≡ Accepted (start u2x)
+accepted u2x = decode-record (start u2x) (valid u2x)
+
+onlyData : (u2x : Bool) → OnlyData (recordOf (start u2x)) (calls u2x)
+onlyData u2x = only-all (recordOf (start u2x)) (calls u2x) (found u2x .only)
+
+-- every premise of demand 3 holds of it
+pub witness : (u2x : Bool) → Hears (813 * scale u2x) 100 (frames u2x) (start u2x) (recordOf (start u2x)) (calls u2x)
+unfolding start
+witness u2x =
+    let s = recordOf (start u2x) in
+    let cs = calls u2x in
+    record {
+      valid = accepted u2x;
+      ready = record { enabled = refl; idle = refl; empty = refl; noLoss = refl; counter = lit≤ tt };
+      passable = passable u2x;
+      onlyData = onlyData u2x;
+      line = found u2x .line;
+      free = roomy-all s cs (found u2x .roomy);
+    }
+
+pub witnessed : (u2x : Bool)
+    → Delivered (813 * scale u2x) 100 (frames u2x) (start u2x .usart .format) (readsOf (recordOf (start u2x)) (calls u2x))
+    (heldBy (usartOf (finalRecord (recordOf (start u2x)) (calls u2x))))
+    (entriesOf (recordOf (start u2x)) (calls u2x))
+witnessed u2x = receives (813 * scale u2x) 100 (frames u2x) (start u2x) (recordOf (start u2x)) (calls u2x) (witness u2x)
+
+-- the same history is one of the sender's: it is given a byte in mid-frame
+pub sender-witness : (u2x : Bool) → MaySend (start u2x) (recordOf (start u2x)) (calls u2x)
+unfolding start
+sender-witness u2x =
+    record { valid = accepted u2x; atRest = record { enabled = refl; resting = refl }; passable = passable u2x; onlyData = onlyData u2x }
+
+pub sent : (u2x : Bool)
+    → Sends (start u2x .usart) (takenOf (recordOf (start u2x)) (calls u2x)) (txdOf (recordOf (start u2x)) (calls u2x))
+    (usartOf (finalRecord (recordOf (start u2x)) (calls u2x)) .sender .buffer)
+sent u2x = sends (start u2x) (recordOf (start u2x)) (calls u2x) (sender-witness u2x)
 
 -- the premises of SPI independence hold of the two, and so its conclusion
 pub alike : (u2x : Bool) → Alike (start u2x) (start u2x) (recordOf (start u2x)) (recordOf (start u2x)) (calls u2x) (quiet u2x)
-alike u2x =
-    let d = start u2x in
-    let s = recordOf d in
-    record {
-      first = accepted u2x;
-      second = accepted u2x;
-      one = refl;
-      passable = passable u2x;
-      passableToo = quiet-passable u2x;
-      same =
-          parts-are s d (calls u2x) (accepted u2x) (passable u2x) ∙ same u2x ∙ sym (parts-are s d (quiet u2x) (accepted u2x) (quiet-passable u2x));
-    }
+alike u2x = record {
+  first = accepted u2x;
+  second = accepted u2x;
+  one = refl;
+  passable = passable u2x;
+  passableToo = quiet-passable u2x;
+  same = found u2x .same;
+}
 
 pub agree : (u2x : Bool) → Agree (recordOf (start u2x)) (recordOf (start u2x)) (calls u2x) (quiet u2x)
 agree u2x = independent (start u2x) (start u2x) (recordOf (start u2x)) (recordOf (start u2x)) (calls u2x) (quiet u2x) (alike u2x)

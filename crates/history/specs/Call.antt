@@ -1,9 +1,10 @@
 -- A history: a list of calls on a record. Each call gets the record that the last one left, each run slices of its own.
-use Prim.Native.Nat.{ℕ, _<_}
+use Prim.Native.Nat.{ℕ, _+_, _<_}
 use mathlib.Core.Bool.{Bool, true}
 use mathlib.Core.List.{List, [], _∷_, _++_, map}
 use mathlib.Core.Path.{_≡_}
 use lib.Dec.{eqb}
+use lib.ListN.{length}
 use Rattle.choice.specs.Pick.{pick}
 use Rattle.usart.specs.declared.unit.Usart.{Usart}
 use Rattle.device.specs.Address.{placeOf}
@@ -13,38 +14,69 @@ use Rattle.device.specs.declared.unit.Device.{Device}
 use Rattle.record.specs.Codec.{decodeOf}
 use Rattle.record.specs.declared.codec.Decoded.{Decoded}
 use Rattle.record.specs.declared.codec.Decoded.the-variants.{Accepted, Refused}
-use Rattle.warpmagpie.specs.Calls.{resetAnswer, recordAfterReset, writeAnswer, recordAfterWrite, readAnswer, recordAfterRead, vectorAnswer, recordAfterVector, runAnswer, recordAfterRun, requestsAnswer}
+use Rattle.warpmagpie.specs.Calls.{resetAnswer, recordAfterReset, writeAnswer, recordAfterWrite, readAnswer, recordAfterRead, vectorAnswer, recordAfterVector, runAnswer, recordAfterRun, outputsAfterRun, requestsAnswer}
 
--- reset; write an address and value; read an address; take a vector; run clocks, with level and output slice; report requests
+-- what passes clocks, or none, and touches no register: a run, with its slices of levels and outputs; and any query, a
+-- call that leaves the record as it is, by the number that it answers
+pub data Passing : Type 0 where
+  run : List ℕ → List ℕ → Passing
+  query : (List ℕ → ℕ) → Passing
+
+-- reset; write an address and value; read an address; take a vector; or pass clocks
 pub data Call : Type 0 where
   reset : Call
   write : ℕ → ℕ → Call
   read : ℕ → Call
   vector : ℕ → Call
-  run : List ℕ → List ℕ → Call
-  report : Call
+  pass : Passing → Call
 
--- the number that a call answers
-abbrev pub answerTo : List ℕ → Call → ℕ
-answerTo s reset = resetAnswer s
-answerTo s (write a v) = writeAnswer s a v
-answerTo s (read a) = readAnswer s a
-answerTo s (vector n) = vectorAnswer s n
-answerTo s (run ls os) = runAnswer s ls os
-answerTo s report = requestsAnswer s
+-- the report of requests is a query
+abbrev pub report : Call
+report = pass (query requestsAnswer)
 
--- the record that it leaves
+-- what a call does: the number that it answers, the record that it leaves, the level bytes of the clocks that it passed,
+-- and the output bytes after them
+pub record Effect : Type 0 where
+  pub answer : ℕ
+  pub after : List ℕ
+  pub levels : List ℕ
+  pub outputs : List ℕ
+
+-- no clock passed
+abbrev pub still : ℕ → List ℕ → Effect
+still n s = record { answer = n; after = s; levels = []; outputs = [] }
+
+-- a clock for each level byte, or none where it is refused
+abbrev pub passed : ℕ → List ℕ → List ℕ → List ℕ → Effect
+passed n s ls os = record { answer = n; after = s; levels = pick (eqb n 0) ls []; outputs = pick (eqb n 0) os [] }
+
+abbrev pub effect : List ℕ → Call → Effect
+effect s reset = still (resetAnswer s) (recordAfterReset s)
+effect s (write a v) = still (writeAnswer s a v) (recordAfterWrite s a v)
+effect s (read a) = still (readAnswer s a) (recordAfterRead s a)
+effect s (vector n) = still (vectorAnswer s n) (recordAfterVector s n)
+effect s (pass (run ls os)) = passed (runAnswer s ls os) (recordAfterRun s ls os) ls (outputsAfterRun s ls os)
+effect s (pass (query q)) = still (q s) s
+
 abbrev pub recordAfter : List ℕ → Call → List ℕ
-recordAfter s reset = recordAfterReset s
-recordAfter s (write a v) = recordAfterWrite s a v
-recordAfter s (read a) = recordAfterRead s a
-recordAfter s (vector n) = recordAfterVector s n
-recordAfter s (run ls os) = recordAfterRun s ls os
-recordAfter s report = s
+recordAfter s c = effect s c .after
 
 abbrev pub finalRecord : List ℕ → List Call → List ℕ
 finalRecord s [] = s
 finalRecord s (c ∷ cs) = finalRecord (recordAfter s c) cs
+
+-- what each call of a list gives, from the clock and on the record that it finds, one after another
+abbrev pub along : {A : Type 0} → (ℕ → List ℕ → Call → List A) → ℕ → List ℕ → List Call → List A
+along f j s [] = []
+along f j s (c ∷ cs) = f j s c ++ along f (j + length (effect s c .levels)) (recordAfter s c) cs
+
+abbrev pub gathered : {A : Type 0} → (List ℕ → Call → List A) → List ℕ → List Call → List A
+gathered f s cs = along (λ j. f) 0 s cs
+
+-- what holds of each call, on the record that it finds
+abbrev pub Throughout : (List ℕ → Call → Type 0) → List ℕ → List Call → Type 0
+Throughout P s [] = Unit {0}
+Throughout P s (c ∷ cs) = P s c × Throughout P (recordAfter s c) cs
 
 -- the value of a write is a byte, as C passes it; every other argument may be anything
 abbrev pub PassableCall : Call → Type 0
@@ -52,8 +84,7 @@ PassableCall reset = Unit {0}
 PassableCall (write a v) = v < 256
 PassableCall (read a) = Unit {0}
 PassableCall (vector n) = Unit {0}
-PassableCall (run ls os) = Unit {0}
-PassableCall report = Unit {0}
+PassableCall (pass p) = Unit {0}
 
 abbrev pub Passable : List Call → Type 0
 Passable [] = Unit {0}
@@ -77,26 +108,11 @@ OnlyDataCall s reset = ⊥
 OnlyDataCall s (write a v) = writeAnswer s a v ≡ 0 → isSerial (placeOf a) ≡ true → a ≡ 0xC6
 OnlyDataCall s (read a) = Unit {0}
 OnlyDataCall s (vector n) = Unit {0}
-OnlyDataCall s (run ls os) = Unit {0}
-OnlyDataCall s report = Unit {0}
+OnlyDataCall s (pass p) = Unit {0}
 
 abbrev pub OnlyData : List ℕ → List Call → Type 0
-OnlyData s [] = Unit {0}
-OnlyData s (c ∷ cs) = OnlyDataCall s c × OnlyData (recordAfter s c) cs
+OnlyData s cs = Throughout OnlyDataCall s cs
 
--- a run is done
-abbrev pub isRun : List ℕ → List ℕ → List ℕ → Bool
-isRun s ls os = eqb (runAnswer s ls os) 0
-
--- the RxD levels of the done runs, one after another
-abbrev pub rxdBy : List ℕ → Call → List Bool
-rxdBy s reset = []
-rxdBy s (write a v) = []
-rxdBy s (read a) = []
-rxdBy s (vector n) = []
-rxdBy s (run ls os) = pick (isRun s ls os) (map rxdIn ls) []
-rxdBy s report = []
-
+-- the RxD levels of the clocks, one after another
 abbrev pub rxdOf : List ℕ → List Call → List Bool
-rxdOf s [] = []
-rxdOf s (c ∷ cs) = rxdBy s c ++ rxdOf (recordAfter s c) cs
+rxdOf s cs = gathered (λ s c. map rxdIn (effect s c .levels)) s cs

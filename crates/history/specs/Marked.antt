@@ -3,6 +3,7 @@ use Prim.Native.Nat.{ℕ, zero, suc, _+_, _*_, _≤_}
 use mathlib.Core.Bool.{true, false}
 use mathlib.Core.List.{List, [], _∷_, _++_}
 use mathlib.Core.Path.{_≡_}
+use Rattle.choice.specs.Bit.{bitAt}
 use Rattle.choice.specs.Pick.{digit}
 use Rattle.frame.specs.Format.{lastBit}
 use Rattle.frame.specs.Limit.{limit, Within}
@@ -14,7 +15,6 @@ use Rattle.frame.specs.declared.format.Size.the-variants.{Nine}
 use Rattle.usart.specs.Bit.{BitLasts}
 use Rattle.usart.specs.Line.{Sent, lineLevel}
 use Rattle.usart.specs.Marked.{zeros}
-use Rattle.usart.specs.Receiving.{bitAt}
 use Rattle.usart.specs.declared.unit.Usart.{Usart}
 use Rattle.spi.specs.Control.{divisorNumber}
 use Rattle.spi.specs.Event.{Event, clock, clocksIn, isUndisturbed}

@@ -1,39 +1,37 @@
 -- SPI traffic never changes a serial answer (document 01, 'The line of demand 3', its end): what the serial side of a
--- history is, and what it is answered. A report is no part of it: it may stand anywhere, and its bits 0 to 2 are those of
--- the serial side where it stands.
+-- history is, and what it is answered. A query is no part of it: it may stand anywhere, and bits 0 to 2 of a report are
+-- those of the serial side where it stands.
 use Prim.Native.Nat.{ℕ, _%_}
-use mathlib.Core.List.{List, [], _∷_, _++_, map}
+use mathlib.Core.List.{List, [], _∷_, map}
 use mathlib.Core.Path.{_≡_}
 use lib.Dec.{eqb}
 use Rattle.choice.specs.Pick.{pick}
 use Rattle.usart.specs.Event.{Event}
 use Rattle.device.specs.Address.{placeOf}
+use Rattle.device.specs.Output.{txdBits}
 use Rattle.device.specs.declared.unit.Device.{Device}
 use Rattle.device.specs.Serial.{isSerial, clocksOf, writesAt, readsAt, vectorsAt}
 use Rattle.warpmagpie.specs.Calls.{resetAnswer, writeAnswer, readAnswer, readValue, vectorAnswer, requestsValue}
 use Rattle.record.specs.Codec.{decodeOf}
 use Rattle.record.specs.declared.codec.Decoded.the-variants.{Accepted}
-use Rattle.history.specs.Call.{Call, reset, write, read, vector, run, report, recordAfter, finalRecord, Passable, usartOf, isRun}
-use Rattle.history.specs.Sending.{txdBy}
+use Rattle.history.specs.Call.{Call, reset, write, read, vector, pass, effect, finalRecord, gathered, Passable, usartOf}
 
--- the serial calls as the serial unit has them (a serial register written or read, vector 0, and the clocks of the done
--- runs, each with its level of RxD), and the resets
+-- the serial calls as the serial unit has them (a serial register written or read, vector 0, and the clocks passed, each
+-- with its level of RxD), and the resets
 pub data Serial : Type 0 where
   event : Event → Serial
   resets : Serial
 
--- the serial part of a call: of SPI registers, of other addresses, of other vectors and of a report there is none
+-- the serial part of a call: of SPI registers, of other addresses, of other vectors and of a query there is none
 abbrev pub serialPart : List ℕ → Call → List Serial
 serialPart s reset = resets ∷ []
 serialPart s (write a v) = map event (writesAt (placeOf a) v)
 serialPart s (read a) = map event (readsAt (placeOf a))
 serialPart s (vector n) = map event (vectorsAt n)
-serialPart s (run ls os) = map event (pick (isRun s ls os) (clocksOf ls) [])
-serialPart s report = []
+serialPart s (pass p) = map event (clocksOf (effect s (pass p) .levels))
 
 abbrev pub serialParts : List ℕ → List Call → List Serial
-serialParts s [] = []
-serialParts s (c ∷ cs) = serialPart s c ++ serialParts (recordAfter s c) cs
+serialParts s cs = gathered serialPart s cs
 
 -- what the serial side is answered: a number, a number and a read's value, TxD and its driven mark after a clock
 pub data Answer : Type 0 where
@@ -46,12 +44,10 @@ serialAnswer s reset = number (resetAnswer s) ∷ []
 serialAnswer s (write a v) = pick (isSerial (placeOf a)) (number (writeAnswer s a v) ∷ []) []
 serialAnswer s (read a) = pick (isSerial (placeOf a)) (value (readAnswer s a) (readValue s a) ∷ []) []
 serialAnswer s (vector n) = pick (eqb n 0) (number (vectorAnswer s n) ∷ []) []
-serialAnswer s (run ls os) = map txd (txdBy s (run ls os))
-serialAnswer s report = []
+serialAnswer s (pass p) = map txd (map txdBits (effect s (pass p) .outputs))
 
 abbrev pub serialAnswers : List ℕ → List Call → List Answer
-serialAnswers s [] = []
-serialAnswers s (c ∷ cs) = serialAnswer s c ++ serialAnswers (recordAfter s c) cs
+serialAnswers s cs = gathered serialAnswer s cs
 
 -- request bits 0 to 2, as a report on the record gives them
 abbrev pub requestBits : List ℕ → ℕ

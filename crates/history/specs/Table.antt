@@ -1,8 +1,9 @@
--- Document 01's table of numbers, for calls on a record: for each number its condition, by itself, and for each call its numbers in the
--- order given there, of which the first whose condition holds is the answer, else 0.
-use Prim.Native.Nat.{ℕ, _/_}
+-- Document 01's table of numbers, for calls on a record: for each number its condition, by itself, and for each exported
+-- call its numbers in the order given there, of which the first whose condition holds is the answer, else 0.
+use Prim.Native.Nat.{ℕ, _/_, _<_}
 use mathlib.Core.Bool.{Bool, true, false, not, _&&_, _||_}
 use mathlib.Core.List.{List, [], _∷_}
+use mathlib.Core.Path.{_≡_}
 use lib.Dec.{eqb}
 use lib.ListN.{length}
 use Rattle.choice.specs.Pick.{pick}
@@ -17,7 +18,8 @@ use Rattle.device.specs.declared.unit.Device.{Device}
 use Rattle.record.specs.Codec.{decodeOf}
 use Rattle.record.specs.declared.codec.Decoded.{Decoded}
 use Rattle.record.specs.declared.codec.Decoded.the-variants.{Accepted, Refused}
-use Rattle.history.specs.Call.{Call, reset, write, read, vector, run, report, deviceOf}
+use Rattle.warpmagpie.specs.Calls.{resetAnswer, writeAnswer, readAnswer, vectorAnswer, runAnswer, requestsAnswer}
+use Rattle.history.specs.Call.{deviceOf}
 
 -- 5: record not 64 bytes, a field out of its range, or an unused byte not zero, so that it is no device's
 abbrev pub isNoDevice : Decoded → Bool
@@ -76,16 +78,17 @@ abbrev pub isUnrequested : Device → ℕ → Bool
 isUnrequested d n = eqb n 0 && not (txcRequested (d .usart)) || eqb n 1 && not (isRequested (d .spi))
 
 -- order: 5, 1, 2, 3, 4; for a run 5, 6, 7; for a vector 5, 1, 8
-abbrev pub tableOf : List ℕ → Call → ℕ
-tableOf s reset = pick (isWrongLength s) 5 0
-tableOf s (write a v) =
-    pick (isNoRecord s) 5
-    (pick (isNowhere a) 1
-    (pick (reservedAt (deviceOf s) (placeOf a) v) 2
-    (pick (unmodelledAt (deviceOf s) (placeOf a) v) 3
-    (pick (underWayAt (deviceOf s) (placeOf a) v) 4
-    0))))
-tableOf s (read a) = pick (isNoRecord s) 5 (pick (isNowhere a) 1 0)
-tableOf s (vector n) = pick (isNoRecord s) 5 (pick (isNoVector n) 1 (pick (isUnrequested (deviceOf s) n) 8 0))
-tableOf s (run ls os) = pick (isNoRecord s) 5 (pick (areUneven ls os) 6 (pick (hasHighLevel ls) 7 0))
-tableOf s report = pick (isNoRecord s) 5 0
+pub record Numbers (s : List ℕ) : Type 0 where
+  pub reset : resetAnswer s ≡ pick (isWrongLength s) 5 0
+  pub write : (a v : ℕ) → v < 256
+      → writeAnswer s a v
+      ≡ pick (isNoRecord s) 5
+      (pick (isNowhere a) 1
+      (pick (reservedAt (deviceOf s) (placeOf a) v) 2
+      (pick (unmodelledAt (deviceOf s) (placeOf a) v) 3
+      (pick (underWayAt (deviceOf s) (placeOf a) v) 4
+      0))))
+  pub read : (a : ℕ) → readAnswer s a ≡ pick (isNoRecord s) 5 (pick (isNowhere a) 1 0)
+  pub vector : (n : ℕ) → vectorAnswer s n ≡ pick (isNoRecord s) 5 (pick (isNoVector n) 1 (pick (isUnrequested (deviceOf s) n) 8 0))
+  pub run : (ls os : List ℕ) → runAnswer s ls os ≡ pick (isNoRecord s) 5 (pick (areUneven ls os) 6 (pick (hasHighLevel ls) 7 0))
+  pub report : requestsAnswer s ≡ pick (isNoRecord s) 5 0

@@ -20,7 +20,7 @@ use Rattle.frame.proofs.WordLaws.{stop-bit}
 use Rattle.usart.specs.Sender.{isVacant, bufferOf, begun, movedFrom, steppedOf, placed, shiftedOn, senderOf, txdOf}
 use Rattle.usart.specs.Unit.{bitClocks, clockOf, isDriven, outputOf, txcRequested}
 use Rattle.usart.specs.Write.{transmittedOf, writeOf, vectorOf}
-use Rattle.usart.specs.Event.{Event, clock, write, read, vector, settled, nextOf, finalOf, isRefused, isUdr0, OnlyData}
+use Rattle.usart.specs.Event.{Event, clock, write, read, vector, settled, nextOf, finalOf, isRefused, isUdr0, OnlyData, levelsOf}
 use Rattle.usart.specs.Line.{Sent, lineLevel, Fits}
 use Rattle.usart.specs.Valid.{ValidBuffer}
 use Rattle.usart.specs.Sending.{MaySend, waiting, acceptedBy, Taken, takenAt, takenOf, tickFrom, laterOf, framesFrom, framesOf, notBefore, outputsOf, Drives, dataIn, Sends}
@@ -47,6 +47,14 @@ drives-same : (w w′ : ℕ → Bool) (j : ℕ) (os : List ℕ) → ((i : ℕ) �
 drives-same w w′ j [] h o = o
 drives-same w w′ j (x ∷ os) h o =
     (o .0 ∙ ap (λ (b : Bool). digit b + 16) (h j (omega arith)), drives-same w w′ (suc j) os (λ i t. h i (omega arith)) (o .1))
+
+-- an output for each clock
+pub outputs-length : (u : Usart) (es : List Event) → length (outputsOf u es) ≡ length (levelsOf es)
+outputs-length u [] = refl
+outputs-length u (clock l ∷ es) = ap suc (outputs-length (clockOf u l) es)
+outputs-length u (write r v ∷ es) = outputs-length (nextOf u (write r v)) es
+outputs-length u (read r ∷ es) = outputs-length (nextOf u (read r)) es
+outputs-length u (vector ∷ es) = outputs-length (nextOf u vector) es
 
 -- what is in the buffer before clock j, and what it takes later
 abbrev ahead : ℕ → Buffer → List Taken → List Taken
