@@ -11,7 +11,7 @@ use Rattle.answer.specs.declared.Refusal.the-variants.{Record, Length, Level}
 use Rattle.device.specs.Outcome.{answerOf, settled, readSettled}
 use Rattle.device.specs.Unit.{resetDevice}
 use Rattle.device.specs.Register.{writeOf, readOf, vectorOf}
-use Rattle.device.specs.Run.{ranOf, outputsOf, areLevels}
+use Rattle.device.specs.Run.{ranOf, outputsOf, areLevels, shown}
 use Rattle.device.specs.Valid.{Valid}
 use Rattle.device.specs.declared.outcome.Written.{Written}
 use Rattle.device.specs.declared.outcome.Written.the-variants.{Done, Refused}
@@ -19,11 +19,11 @@ use Rattle.device.specs.declared.outcome.Reading.{Reading}
 use Rattle.device.specs.declared.outcome.Reading.the-variants.{Done as Value, Refused as NoValue}
 use Rattle.device.specs.declared.unit.Device.{Device}
 use Rattle.device.proofs.ValidLaws.{valid-reset, valid-write, valid-read, valid-vector, valid-run}
-use Rattle.record.specs.Codec.{decodeOf}
+use Rattle.record.specs.Codec.{recordOf, decodeOf}
 use Rattle.record.specs.declared.codec.Decoded.{Decoded}
 use Rattle.record.specs.declared.codec.Decoded.the-variants.{Accepted}
 use Rattle.record.proofs.Round.{decode-record, decode-valid, decode-length}
-use Rattle.warpmagpie.specs.Calls.{kept, shown, keptByRead, resetOn, writeOn, readOn, vectorOn, runOn, outputsOn}
+use Rattle.warpmagpie.specs.Calls.{kept, keptByRead, resetOn, writeOn, readOn, vectorOn, runOn, outputsOn}
 use Rattle.history.specs.Call.{Passing, run, query, Call, reset, write, read, vector, pass, Effect, still, passed, effect, recordAfter, PassableCall, Passable}
 
 -- a call that comes to w leaves the record of the device that w leaves
@@ -71,15 +71,18 @@ module _ (s : List ℕ) (d : Device) (h : decodeOf s ≡ Accepted d) where
   abbrev valid : Valid d
   valid = decode-valid s d h
 
-  -- a call that passes no clock
+  -- a call that passes no clock, and one that has run d over ls
   none-passed : (n : ℕ) → Passes d (still n s)
   unfolding ranOf outputsOf
   none-passed n = record { after = h; outputs = refl }
 
+  done-passed : (ls : List ℕ) → Passes d (passed 0 (recordOf (ranOf d ls)) ls (outputsOf d ls))
+  done-passed ls = record { after = decode-record (ranOf d ls) (valid-run d ls valid); outputs = refl }
+
   -- a run, by its tests: of the lengths, and of the levels
   ran : (ls os : List ℕ) (even low : Bool) (w : Written) → w ≡ pick even (pick low (Done (ranOf d ls)) (Refused Level)) (Refused Length)
       → Passes d (passed (answerOf w) (kept s w) ls (shown os (outputsOf d ls) w))
-  ran ls os true true w e = rw e (record { after = decode-record (ranOf d ls) (valid-run d ls valid); outputs = refl })
+  ran ls os true true w e = rw e (done-passed ls)
   ran ls os true false w e = rw e (none-passed 7)
   ran ls os false low w e = rw e (none-passed 6)
 

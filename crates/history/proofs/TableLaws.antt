@@ -18,7 +18,7 @@ use Rattle.spi.proofs.RefusalLaws.{write-number as spi-write, vector-number as 
 use Rattle.device.specs.Address.{placeOf}
 use Rattle.device.specs.Outcome.{answerOf, readAnswerOf, valueOf}
 use Rattle.device.specs.Register.{serialWritten, spiWritten, writeIn, readIn, vectorOf}
-use Rattle.device.specs.Run.{ranOf, outputsOf, areLevels}
+use Rattle.device.specs.Run.{ranOf, outputsOf, areLevels, shown}
 use Rattle.device.specs.Unit.{resetDevice}
 use Rattle.device.specs.declared.address.Place.{Place}
 use Rattle.device.specs.declared.address.Place.the-variants.{Serial, Spi, Nowhere}
@@ -33,7 +33,7 @@ use Rattle.record.specs.Codec.{decodeOf}
 use Rattle.record.specs.declared.codec.Decoded.{Decoded}
 use Rattle.record.specs.declared.codec.Decoded.the-variants.{Accepted, Refused as NoDevice}
 use Rattle.record.proofs.Round.{record-decode}
-use Rattle.warpmagpie.specs.Calls.{kept, shown, keptByRead, resetOn, writeOn, readOn, readAnswer, readValue, vectorOn, runOn, outputsOn, runAnswer, recordAfterRun, outputsAfterRun, requestsAnswerOn, requestsAnswer, requestsValueOn, requestsValue}
+use Rattle.warpmagpie.specs.Calls.{kept, keptByRead, resetOn, writeOn, readOn, readAnswer, readValue, vectorOn, runOn, outputsOn, runAnswer, recordAfterRun, outputsAfterRun, requestsAnswerOn, requestsAnswer, requestsValueOn, requestsValue}
 use Rattle.history.specs.Call.{run, query, Call, reset, write, read, vector, pass, effect, recordAfter, deviceIn}
 use Rattle.history.specs.Table.{isNoDevice, isWrongLength, isNoPlace, isNowhere, isNoVector, reservedAt, unmodelledAt, underWayAt, areUneven, hasHighLevel, isUnrequested, Numbers}
 
