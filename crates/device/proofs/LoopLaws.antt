@@ -57,10 +57,10 @@ module _ (ls : List ℕ) (i : ℕ) (h : i < length ls) where
     serial-outputs-on os q k = rw (q, e, add-one i, take-suc-set os i _ k, append-assoc, drop-cons ls i 0 h)
 
 -- what was skipped
-pub skipped-few : (u : Usart) (n : ℕ) {q : Skipped} → q ≡ skippedOf u n → (q .clocks ≤ quietOf u) × (q .clocks ≤ n)
+pub skipped-few : (u : Usart) (n : ℕ) {q : Skipped} → q ≡ skippedOf u n → (q .clocks .0 ≤ quietOf u) × (q .clocks .0 ≤ n)
 skipped-few u n e = rw e (least-le (least (quietOf u) n) (quietOf u) n (omega arith))
 
-pub skipped-unit : (u : Usart) (n : ℕ) {q : Skipped} → q ≡ skippedOf u n → q .usart ≡ countedOf u (q .clocks)
+pub skipped-unit : (u : Usart) (n : ℕ) {q : Skipped} → q ≡ skippedOf u n → q .usart ≡ countedOf u (q .clocks .0)
 skipped-unit u n e = rw e refl
 
 -- as many clocks as only count, from place i

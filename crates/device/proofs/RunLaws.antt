@@ -12,10 +12,11 @@ use Rattle.usart.specs.declared.unit.Usart.{Usart}
 use Rattle.usart.proofs.CountingLaws.{quiet-clock, quiet-after, counted-none, counted-more, output-counted}
 use Rattle.spi.specs.Control.{isEnabled}
 use Rattle.spi.specs.Unit.{outputOf as spiOutput}
-use Rattle.spi.specs.Clock.{withSck, clockOf as spiClock}
+use Rattle.spi.specs.Clock.{clockOf as spiClock}
+use Rattle.spi.specs.Means.{withSck}
 use Rattle.spi.specs.declared.clock.Levels.{Levels}
 use Rattle.spi.specs.declared.unit.Spi.{Spi}
-use Rattle.spi.proofs.CommandLaws.{off-clock, off-output}
+use Rattle.spi.proofs.MasterLaws.{off-clock, off-output}
 use Rattle.device.specs.Unit.{rxdIn, levelsIn, afterOf, clockOf}
 use Rattle.device.specs.ByUnit.{serialRan, serialOutputs, spiRan, spiOutputs, sumsOf}
 use Rattle.device.specs.Run.{ranOf, outputsOf}

@@ -36,7 +36,7 @@ impl Device {
     {
         let s = self.spi;
         let u = serial_clocks(self.usart, levels, outputs);
-        if s.control.commands() {
+        if s.control.keeps_master() {
             return self.after(u, master_clocks(s, levels, outputs));
         }
         if s.control.enabled() {

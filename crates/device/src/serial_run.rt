@@ -1,4 +1,5 @@
 // The serial unit's part of a run: it goes through the level bytes, several at a time where clocks only count, and writes the output bytes.
+use span::Span;
 use usart::Usart;
 ghost use mathlib.Core.Path.{_≡_};
 ghost use mathlib.Core.List.{_++_};
@@ -35,8 +36,8 @@ fn pass(u: Usart, levels: &[u8], outputs: &mut [u8], i: usize) -> Passed
     ensures { λ _. ⌜ length (now (outputs .exit)) ≡ length (now (outputs .entry)) ⌝ }
     ensures { λ r. ⌜ take (r .place) (now (outputs .exit)) ++ serialOutputs (r .usart) (drop (r .place) (now (levels .entry))) ≡ take i (now (outputs .entry)) ++ serialOutputs u (drop i (now (levels .entry))) ⌝ }
 {
-    let q = u.skip(levels.len() - i);
-    if q.clocks == 0 {
+    let q = u.skip(Span(levels.len() - i));
+    if q.clocks.0 == 0 {
         let v = u.clock(levels[i] % 2 == 1);
         outputs[i] = v.output();
         return Passed {
@@ -45,7 +46,7 @@ fn pass(u: Usart, levels: &[u8], outputs: &mut [u8], i: usize) -> Passed
         };
     }
     let v = q.usart;
-    let place = i + q.clocks;
+    let place = i + q.clocks.0;
     fill(outputs, i, place, u.output());
     Passed {
         usart: v,

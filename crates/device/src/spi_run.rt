@@ -6,7 +6,7 @@ ghost use mathlib.Core.Path.{_≡_};
 ghost use mathlib.Core.Bool.{true, false};
 ghost use Prim.Native.Nat.{_+_, _%_};
 ghost use lib.ListN.{length};
-ghost use Rattle.spi.specs.Control.{isEnabled, isCommanding};
+ghost use Rattle.spi.specs.Control.{isEnabled, keepsMaster};
 ghost use Rattle.device.specs.ByUnit.{spiRan, spiOutputs, sumsOf};
 
 fn sum(a: u8, b: u8) -> u8
@@ -32,7 +32,7 @@ pub(crate) fn spi_clocks(s: Spi, levels: &[u8], outputs: &mut [u8]) -> Spi
 }
 
 pub(crate) fn master_clocks(s: Spi, levels: &[u8], outputs: &mut [u8]) -> Spi
-    requires { ⌜ isCommanding (s .control) ≡ true ⌝ }
+    requires { ⌜ keepsMaster (s .control) ≡ true ⌝ }
     requires { ⌜ length (now outputs) ≡ length (now levels) ⌝ }
     ensures { λ r. ⌜ r ≡ spiRan s (now (levels .entry)) ⌝ }
     ensures { λ _. ⌜ now (outputs .exit) ≡ sumsOf (now (outputs .entry)) (spiOutputs s (now (levels .entry))) ⌝ }
@@ -41,7 +41,7 @@ pub(crate) fn master_clocks(s: Spi, levels: &[u8], outputs: &mut [u8]) -> Spi
     let mut i = 0;
     while i < levels.len() {
         let l = pin_levels(levels[i]);
-        state = state.commanded(l);
+        state = state.master_clock(l);
         outputs[i] = sum(outputs[i], state.output(l.ss));
         i += 1;
     }

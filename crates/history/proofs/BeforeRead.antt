@@ -8,7 +8,7 @@ use Rattle.usart.specs.Settings.{sizeOf, parityOf}
 use Rattle.usart.specs.declared.queue.Places.the-variants.{Two}
 use Rattle.usart.specs.declared.sampler.Sampler.the-variants.{Idle}
 use Rattle.usart.specs.declared.sender.Buffer.the-variants.{Vacant}
-use Rattle.usart.specs.declared.sender.Shifter.the-variants.{Resting}
+use Rattle.usart.specs.declared.sender.ShiftRegister.the-variants.{Resting}
 use Rattle.spi.specs.Control.{divisorNumber}
 use Rattle.spi.specs.Unit.{resetSpi}
 use Rattle.device.specs.Address.{placeOf}

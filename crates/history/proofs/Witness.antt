@@ -25,7 +25,7 @@ use Rattle.usart.specs.Write.{formattedOf, writeC, isReservedC, sizedC, timedOf
 use Rattle.usart.specs.declared.queue.Places.the-variants.{Empty}
 use Rattle.usart.specs.declared.sampler.Sampler.the-variants.{Idle}
 use Rattle.usart.specs.declared.sender.Buffer.the-variants.{Vacant}
-use Rattle.usart.specs.declared.sender.Shifter.the-variants.{Resting}
+use Rattle.usart.specs.declared.sender.ShiftRegister.the-variants.{Resting}
 use Rattle.usart.proofs.ClosedLists.{bool-eqb, shown, shown-shows, room, free}
 use Rattle.spi.specs.Unit.{resetSpi}
 use Rattle.spi.specs.Clock.{masterOf, steppedOf as spiStepped, completedFlags}

@@ -6,7 +6,7 @@ use mathlib.Core.Path.{_≡_}
 use Rattle.choice.specs.Bit.{bitAt}
 use Rattle.choice.specs.Pick.{digit}
 use Rattle.frame.specs.Format.{lastBit}
-use Rattle.frame.specs.Limit.{limit, Within}
+use Rattle.usart.specs.Limit.{limit, Within}
 use Rattle.frame.specs.Parity.{parityIn}
 use Rattle.frame.specs.Vote.{majorityOf}
 use Rattle.frame.specs.declared.format.Format.{Format}

@@ -9,8 +9,8 @@ use Rattle.frame.specs.declared.format.Format.{Format}
 use Rattle.frame.proofs.FormatLaws.{word-bits-range, stop-bits-range, samples-half, first-vote-range}
 use Rattle.usart.specs.Valid.{ValidShifter, ValidSampler}
 use Rattle.usart.proofs.SettingsLaws.{code-lt, upm-lt}
-use Rattle.usart.specs.declared.sender.Shifter.{Shifter}
-use Rattle.usart.specs.declared.sender.Shifter.the-variants.{Resting, Sending}
+use Rattle.usart.specs.declared.sender.ShiftRegister.{ShiftRegister}
+use Rattle.usart.specs.declared.sender.ShiftRegister.the-variants.{Resting, Sending}
 use Rattle.usart.specs.declared.sampler.Sampler.{Sampler}
 use Rattle.usart.specs.declared.sampler.Sampler.the-variants.{Idle, Receiving}
 use Rattle.usart.specs.declared.queue.Places.{Places}
@@ -61,12 +61,12 @@ held-lt (Two a b) = omega arith
 samples-le : (f : Format) → samples f ≤ 16
 samples-le f = let e = samples-half f in let r = first-vote-range f in omega arith
 
-sent-bit : (f : Format) (s : Shifter) → ValidShifter f s → transmissionIn s .bit < 13
+sent-bit : (f : Format) (s : ShiftRegister) → ValidShifter f s → transmissionIn s .bit < 13
 sent-bit f Resting v = omega arith
 sent-bit f (Sending t) v =
     let w = word-bits-range f in let s = stop-bits-range f in let b : t .bit ≤ wordBits f + stopBits f = v .bit in omega arith
 
-sent-sample : (f : Format) (s : Shifter) → ValidShifter f s → transmissionIn s .sample .0 < 16
+sent-sample : (f : Format) (s : ShiftRegister) → ValidShifter f s → transmissionIn s .sample .0 < 16
 sent-sample f Resting v = omega arith
 sent-sample f (Sending t) v = let l = samples-le f in let b : t .sample .0 < samples f = v .sample in omega arith
 

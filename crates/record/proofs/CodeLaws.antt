@@ -18,8 +18,8 @@ use Rattle.usart.specs.Sampler.{isReceiving}
 use Rattle.usart.specs.Queue.{oldestOf}
 use Rattle.usart.specs.declared.sender.Buffer.{Buffer}
 use Rattle.usart.specs.declared.sender.Buffer.the-variants.{Vacant, Full}
-use Rattle.usart.specs.declared.sender.Shifter.{Shifter}
-use Rattle.usart.specs.declared.sender.Shifter.the-variants.{Resting, Sending}
+use Rattle.usart.specs.declared.sender.ShiftRegister.{ShiftRegister}
+use Rattle.usart.specs.declared.sender.ShiftRegister.the-variants.{Resting, Sending}
 use Rattle.usart.specs.declared.sampler.Sampler.{Sampler}
 use Rattle.usart.specs.declared.sampler.Sampler.the-variants.{Idle, Receiving}
 use Rattle.usart.specs.declared.queue.Places.{Places}
@@ -76,7 +76,7 @@ unfolding bufferOf
 buffer-again Vacant = refl
 buffer-again (Full d) = refl
 
-pub shifter-again : (s : Shifter) → shifterOf (not (isResting s)) (transmissionIn s) ≡ s
+pub shifter-again : (s : ShiftRegister) → shifterOf (not (isResting s)) (transmissionIn s) ≡ s
 unfolding shifterOf
 shifter-again Resting = refl
 shifter-again (Sending t) = refl

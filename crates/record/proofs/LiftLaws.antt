@@ -12,8 +12,8 @@ use Rattle.usart.specs.Unit.{resetUsart}
 use Rattle.usart.specs.Valid.{ValidBuffer, ValidShifter, ValidSampler, ValidPlaces}
 use Rattle.usart.specs.declared.sender.Buffer.{Buffer}
 use Rattle.usart.specs.declared.sender.Buffer.the-variants.{Vacant, Full}
-use Rattle.usart.specs.declared.sender.Shifter.{Shifter}
-use Rattle.usart.specs.declared.sender.Shifter.the-variants.{Resting, Sending}
+use Rattle.usart.specs.declared.sender.ShiftRegister.{ShiftRegister}
+use Rattle.usart.specs.declared.sender.ShiftRegister.the-variants.{Resting, Sending}
 use Rattle.usart.specs.declared.sampler.Sampler.{Sampler}
 use Rattle.usart.specs.declared.sampler.Sampler.the-variants.{Idle, Receiving}
 use Rattle.usart.specs.declared.queue.Places.{Places}
@@ -51,7 +51,7 @@ pub data-lt : (f : Format) (b : Buffer) → ValidBuffer f b → dataIn b < 512
 data-lt f Vacant v = omega arith
 data-lt f (Full d) v = let l = data-limit (f .size) in let w : d < 2 ^ dataBits (f .size) = v in omega arith
 
-pub sent-lt : (f : Format) (s : Shifter) → ValidShifter f s → transmissionIn s .word < 1024
+pub sent-lt : (f : Format) (s : ShiftRegister) → ValidShifter f s → transmissionIn s .word < 1024
 sent-lt f Resting v = omega arith
 sent-lt f (Sending t) v = let l = word-limit f in let w : t .word < 2 ^ wordBits f = v .word in omega arith
 

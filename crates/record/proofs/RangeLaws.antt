@@ -15,8 +15,8 @@ use Rattle.usart.specs.Valid.{ValidBaud, ValidBuffer, ValidShifter, ValidSender
 use Rattle.usart.specs.declared.baud.Baud.{Baud}
 use Rattle.usart.specs.declared.sender.Buffer.{Buffer}
 use Rattle.usart.specs.declared.sender.Buffer.the-variants.{Vacant, Full}
-use Rattle.usart.specs.declared.sender.Shifter.{Shifter}
-use Rattle.usart.specs.declared.sender.Shifter.the-variants.{Resting, Sending}
+use Rattle.usart.specs.declared.sender.ShiftRegister.{ShiftRegister}
+use Rattle.usart.specs.declared.sender.ShiftRegister.the-variants.{Resting, Sending}
 use Rattle.usart.specs.declared.sender.Sender.{Sender}
 use Rattle.usart.specs.declared.sampler.Reception.{Reception}
 use Rattle.usart.specs.declared.sampler.Sampler.{Sampler}
@@ -72,7 +72,7 @@ frame-within : (w b s l m n : ℕ) → withinFrame w b s l m n ≡ true → (w <
 frame-within w b s l m n h =
     let t = three (ltb w l) (leb b m) (ltb s n) h in (ltb-true w l (t .0), (leb-true b m (t .1 .0), ltb-true s n (t .1 .1)))
 
-shifter-valid : (f : Format) (s : Shifter) → shifterFits f s ≡ true → ValidShifter f s
+shifter-valid : (f : Format) (s : ShiftRegister) → shifterFits f s ≡ true → ValidShifter f s
 shifter-valid f Resting h = tt
 shifter-valid f (Sending t) h =
     let w = frame-within (t .word) (t .bit) (t .sample .0) (2 ^ wordBits f) (lastBit f) (samples f) h in
@@ -186,7 +186,7 @@ buffer-range : (f : Format) (b : Buffer) → ValidBuffer f b → bufferBelow b (
 buffer-range f Vacant v = refl
 buffer-range f (Full d) v = lt-ltb _ _ v
 
-shifter-range : (f : Format) (s : Shifter) → ValidShifter f s → shifterFits f s ≡ true
+shifter-range : (f : Format) (s : ShiftRegister) → ValidShifter f s → shifterFits f s ≡ true
 shifter-range f Resting v = refl
 shifter-range f (Sending t) v = and-three _ _ _ (lt-ltb _ _ (v .word)) (le-leb _ _ (v .bit)) (lt-ltb _ _ (v .sample))
 

@@ -12,7 +12,7 @@ use Rattle.usart.specs.Settings.{parityOf}
 use Rattle.usart.specs.declared.baud.Baud.{Baud}
 use Rattle.usart.specs.declared.sender.Buffer.{Buffer}
 use Rattle.usart.specs.declared.sender.Transmission.{Transmission}
-use Rattle.usart.specs.declared.sender.Shifter.{Shifter}
+use Rattle.usart.specs.declared.sender.ShiftRegister.{ShiftRegister}
 use Rattle.usart.specs.declared.sender.Sender.{Sender}
 use Rattle.usart.specs.declared.sampler.Reception.{Reception}
 use Rattle.usart.specs.declared.sampler.Sampler.{Sampler}
@@ -59,10 +59,10 @@ bufferAt b = bufferOf (setAt b 15) (wordAt b 16)
 abbrev pub transmissionAt : List ℕ → Transmission
 transmissionAt b = record { word = wordAt b 19; bit = byteAt b 21; sample = record { 0 = byteAt b 22 } }
 
-abbrev pub shifterAt : List ℕ → Shifter
+abbrev pub shifterAt : List ℕ → ShiftRegister
 shifterAt b = shifterOf (setAt b 18) (transmissionAt b)
 
-abbrev pub senderWith : List ℕ → Buffer → Shifter → Sender
+abbrev pub senderWith : List ℕ → Buffer → ShiftRegister → Sender
 senderWith b u s = record { buffer = u; shifter = s; txc = setAt b 14 }
 
 abbrev pub senderAt : List ℕ → Sender

@@ -9,8 +9,8 @@ use Rattle.usart.specs.Queue.{noFrame, oldestOf}
 use Rattle.usart.specs.declared.sender.Buffer.{Buffer}
 use Rattle.usart.specs.declared.sender.Buffer.the-variants.{Vacant, Full}
 use Rattle.usart.specs.declared.sender.Transmission.{Transmission}
-use Rattle.usart.specs.declared.sender.Shifter.{Shifter}
-use Rattle.usart.specs.declared.sender.Shifter.the-variants.{Resting, Sending}
+use Rattle.usart.specs.declared.sender.ShiftRegister.{ShiftRegister}
+use Rattle.usart.specs.declared.sender.ShiftRegister.the-variants.{Resting, Sending}
 use Rattle.usart.specs.declared.sender.Sender.{Sender}
 use Rattle.usart.specs.declared.sampler.Reception.{Reception}
 use Rattle.usart.specs.declared.sampler.Sampler.{Sampler}
@@ -29,11 +29,11 @@ dataIn (Full d) = d
 unfoldable pub bufferOf : Bool → ℕ → Buffer
 bufferOf full d = pick full (Full d) Vacant
 
-abbrev pub transmissionIn : Shifter → Transmission
+abbrev pub transmissionIn : ShiftRegister → Transmission
 transmissionIn Resting = record { word = 0; bit = 0; sample = record { 0 = 0 } }
 transmissionIn (Sending t) = t
 
-unfoldable pub shifterOf : Bool → Transmission → Shifter
+unfoldable pub shifterOf : Bool → Transmission → ShiftRegister
 shifterOf sending t = pick sending (Sending t) Resting
 
 abbrev pub senderParts : Sender → SenderParts

@@ -11,8 +11,8 @@ use Rattle.usart.specs.declared.baud.Baud.{Baud}
 use Rattle.usart.specs.declared.sender.Buffer.{Buffer}
 use Rattle.usart.specs.declared.sender.Buffer.the-variants.{Vacant, Full}
 use Rattle.usart.specs.declared.sender.Transmission.{Transmission}
-use Rattle.usart.specs.declared.sender.Shifter.{Shifter}
-use Rattle.usart.specs.declared.sender.Shifter.the-variants.{Resting, Sending}
+use Rattle.usart.specs.declared.sender.ShiftRegister.{ShiftRegister}
+use Rattle.usart.specs.declared.sender.ShiftRegister.the-variants.{Resting, Sending}
 use Rattle.usart.specs.declared.sender.Sender.{Sender}
 use Rattle.usart.specs.declared.sampler.Reception.{Reception}
 use Rattle.usart.specs.declared.sampler.Sampler.{Sampler}
@@ -41,7 +41,7 @@ withinFrame word bit sample limit last n = ltb word limit && leb bit last && ltb
 abbrev pub transmissionFits : Format → Transmission → Bool
 transmissionFits f t = withinFrame (t .word) (t .bit) (t .sample .0) (2 ^ wordBits f) (lastBit f) (samples f)
 
-abbrev pub shifterFits : Format → Shifter → Bool
+abbrev pub shifterFits : Format → ShiftRegister → Bool
 shifterFits f Resting = true
 shifterFits f (Sending t) = transmissionFits f t
 

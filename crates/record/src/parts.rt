@@ -6,7 +6,7 @@ use usart::Reception;
 use usart::Sample;
 use usart::Sampler;
 use usart::Sender;
-use usart::Shifter;
+use usart::ShiftRegister;
 use usart::Transmission;
 ghost use mathlib.Core.Path.{_≡_};
 ghost use Rattle.record.specs.Parts.{dataIn, bufferOf, transmissionIn, shifterOf, rememberedIn, receptionIn, samplerOf, heldCount, secondIn, placesOf, senderParts, receiverParts};
@@ -47,26 +47,26 @@ pub fn buffer_of(full: bool, data: u16) -> Buffer
     Buffer::Vacant
 }
 
-fn transmission(s: Shifter) -> Transmission
+fn transmission(s: ShiftRegister) -> Transmission
     ensures { λ r. ⌜ r ≡ transmissionIn s ⌝ }
 {
     match s {
-        Shifter::Resting => Transmission {
+        ShiftRegister::Resting => Transmission {
             word: 0,
             bit: 0,
             sample: Sample(0),
         },
-        Shifter::Sending(t) => t,
+        ShiftRegister::Sending(t) => t,
     }
 }
 
-pub fn shifter_of(sending: bool, t: Transmission) -> Shifter
+pub fn shifter_of(sending: bool, t: Transmission) -> ShiftRegister
     ensures { λ r. ⌜ r ≡ shifterOf sending t ⌝ }
 {
     if sending {
-        return Shifter::Sending(t);
+        return ShiftRegister::Sending(t);
     }
-    Shifter::Resting
+    ShiftRegister::Resting
 }
 
 pub fn sender_parts(s: Sender) -> SenderParts

@@ -18,7 +18,7 @@ use usart::Reception;
 use usart::Sample;
 use usart::Sampler;
 use usart::Sender;
-use usart::Shifter;
+use usart::ShiftRegister;
 use usart::Transmission;
 use usart::Usart;
 ghost use mathlib.Core.Path.{_≡_};
@@ -79,13 +79,13 @@ fn transmission_at(b: [u8; 64]) -> Transmission
     }
 }
 
-fn shifter_at(b: [u8; 64]) -> Shifter
+fn shifter_at(b: [u8; 64]) -> ShiftRegister
     ensures { λ r. ⌜ r ≡ shifterAt b ⌝ }
 {
     shifter_of(b[18] == 1, transmission_at(b))
 }
 
-fn sender_with(b: [u8; 64], buffer: Buffer, shifter: Shifter) -> Sender
+fn sender_with(b: [u8; 64], buffer: Buffer, shifter: ShiftRegister) -> Sender
     ensures { λ r. ⌜ r ≡ senderWith b buffer shifter ⌝ }
 {
     Sender {

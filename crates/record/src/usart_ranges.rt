@@ -6,7 +6,7 @@ use usart::Receiver;
 use usart::Reception;
 use usart::Sampler;
 use usart::Sender;
-use usart::Shifter;
+use usart::ShiftRegister;
 use usart::Transmission;
 use usart::Usart;
 ghost use mathlib.Core.Path.{_≡_};
@@ -45,12 +45,12 @@ fn transmission_fits(f: Format, t: Transmission) -> bool
     (t.word < limit) & (t.bit <= last) & (t.sample.0 < samples)
 }
 
-fn shifter_fits(f: Format, s: Shifter) -> bool
+fn shifter_fits(f: Format, s: ShiftRegister) -> bool
     ensures { λ r. ⌜ r ≡ shifterFits f s ⌝ }
 {
     match s {
-        Shifter::Resting => true,
-        Shifter::Sending(t) => transmission_fits(f, t),
+        ShiftRegister::Resting => true,
+        ShiftRegister::Sending(t) => transmission_fits(f, t),
     }
 }
 

@@ -1,16 +1,13 @@
 -- What a call answers and leaves, by what its record decodes to.
 use Prim.Native.Nat.{ℕ}
-use mathlib.Core.Bool.{Bool, true, false}
-use mathlib.Core.List.{List, [], _∷_}
+use mathlib.Core.List.{List}
 use mathlib.Core.Path.{_≡_, refl, sym, ap, ap₂, _∙_}
-use lib.Dec.{eqb}
 use lib.ListN.{length}
 use borrow.Author.Tests.{eq-eqb, ne-eqb}
-use Rattle.choice.specs.Pick.{pick}
 use Rattle.answer.specs.Number.{numberOf}
 use Rattle.device.specs.Outcome.{answerOf, readAnswerOf, valueOf}
 use Rattle.device.specs.Register.{writeOf, readOf, vectorOf}
-use Rattle.device.specs.Run.{outputsOf, areLevels, runOf, shown}
+use Rattle.device.specs.Run.{outputsOf, runOf, shown}
 use Rattle.device.specs.Unit.{resetDevice, requestsOf}
 use Rattle.answer.specs.declared.Refusal.the-variants.{Record}
 use Rattle.device.specs.declared.outcome.Written.{Written}

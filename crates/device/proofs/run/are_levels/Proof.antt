@@ -1,4 +1,4 @@
-use mathlib.Core.Bool.{Bool, true, false}
+use mathlib.Core.Bool.{false}
 use mathlib.Core.List.{List}
 use mathlib.Core.Path.{_≡_, refl, sym, ap, _∙_}
 use Prim.Native.Nat.{ℕ, _≤_, _<_, _-_}
@@ -10,8 +10,6 @@ use Rattle.device.specs.Run.{areLevels}
 use Rattle.device.proofs.LoopLaws.{same-limit, level-on, none-left}
 use Rattle.device.proofs.run.are_levels.Statement.{statement}
 use Rattle.device.proofs.run.are_levels.Tie as tie
-use Rattle.device.proofs.run.are_levels.Reads as reads
-use Rattle.device.proofs.run.are_levels.Lts as lts
 
 abbrev Inv-loop : tie.InvT-loop
 Inv-loop levels low₀ i₀ low i = (i ≤ length levels) × (pick low (areLevels (drop i levels)) false ≡ areLevels levels)

@@ -6,8 +6,6 @@ use lib.ListN.{length, take, replicate, length-set}
 use Rattle.device.proofs.LoopLaws.{fill-none, fill-on}
 use Rattle.device.proofs.serial_run.fill.Statement.{statement}
 use Rattle.device.proofs.serial_run.fill.Tie as tie
-use Rattle.device.proofs.serial_run.fill.Reads as reads
-use Rattle.device.proofs.serial_run.fill.Lts as lts
 
 abbrev Inv-loop : tie.InvT-loop
 Inv-loop outputs₀ «from» to output i₀ outputs i =

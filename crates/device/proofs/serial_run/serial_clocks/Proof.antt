@@ -7,9 +7,6 @@ use Rattle.device.specs.ByUnit.{serialRan, serialOutputs}
 use Rattle.device.proofs.LoopLaws.{none-left, all-taken}
 use Rattle.device.proofs.serial_run.serial_clocks.Statement.{statement}
 use Rattle.device.proofs.serial_run.serial_clocks.Tie as tie
-use Rattle.device.proofs.serial_run.serial_clocks.Reads as reads
-use Rattle.device.proofs.serial_run.serial_clocks.Lts as lts
-use Rattle.device.proofs.serial_run.pass.Reads as pass-reads
 
 abbrev Inv-loop : tie.InvT-loop
 Inv-loop levels outputs₀ state₀ i₀ outputs state i =

@@ -1,18 +1,17 @@
-use mathlib.Core.Path.{_≡_, sym, ap, _∙_}
+use mathlib.Core.Path.{_≡_, sym, _∙_}
 use mathlib.Core.Bool.{true}
-use Prim.Native.Nat.{ℕ, _-_, _<_}
+use Prim.Native.Nat.{_-_}
 use native.Mathlib.Omega.{arith}
 use lib.ListN.{length}
-use Rattle.spi.specs.Control.{isCommanding}
-use Rattle.spi.specs.declared.unit.Spi.{Spi}
-use Rattle.spi.proofs.CommandLaws.{commanded-clock, commanded-control}
+use Rattle.spi.specs.Control.{keepsMaster}
+use Rattle.spi.proofs.MasterLaws.{keeps-step}
 use Rattle.device.proofs.LoopLaws.{SpiPart, spi-begin, spi-turn, spi-done}
 use borrow.Author.Needs.{needs}
 use Rattle.device.proofs.spi_run.master_clocks.Statement.{statement}
 use Rattle.device.proofs.spi_run.master_clocks.Tie as tie
 
 abbrev Inv-loop : tie.InvT-loop
-Inv-loop levels outputs₀ state₀ i₀ outputs state i = (isCommanding (state .control) ≡ true) × SpiPart levels outputs₀ state₀ outputs state i
+Inv-loop levels outputs₀ state₀ i₀ outputs state i = (keepsMaster (state .control) ≡ true) × SpiPart levels outputs₀ state₀ outputs state i
 
 abbrev μ-loop : tie.MeasureT-loop
 μ-loop levels outputs₀ state₀ i₀ outputs state i = length levels - i
@@ -29,12 +28,8 @@ slice-write-outputs c = omega (arith, c .before .before .before .before .before 
 loop-again : tie.Need-loop-again Inv-loop μ-loop
 loop-again c =
     let at = c .before .before .before .before .before .before .before in
-    let s = at .loop .state in
-    let l = c .before .before .before .before .pin-levels .result in
-    let e = c .before .before .before .commanded .ensures in (
-      ap isCommanding (ap (λ (y : Spi). y .control) e ∙ commanded-control s l) ∙ at .loop .inv .0,
-      spi-turn (at .loop .inv .1) (omega arith) (c .before .before .before .before .pin-levels .ensures) (e ∙ sym (commanded-clock s l (at .loop .inv .0))) (c .before .output .ensures) (c .sum .ensures),
-    )
+    let k = keeps-step (at .loop .state) (c .before .before .before .before .pin-levels .result) (at .loop .inv .0) (c .before .before .before .master-clock .ensures) in
+    (k .1, spi-turn (at .loop .inv .1) (omega arith) (c .before .before .before .before .pin-levels .ensures) (k .0) (c .before .output .ensures) (c .sum .ensures))
 
 same-length : tie.Need-same-length Inv-loop μ-loop
 same-length c = c .before .loop .inv .1 .long ∙ sym (c .before .before .before .before .pre .1)

@@ -18,12 +18,6 @@ returns : tie.Need-returns
 unfolding decodeOf
 returns c = wrong-length deviceAt recordOf inRange (now (c .before .before .args .s)) (c .if1 .taken)
 
-taken-requires : tie.Need-taken-requires
-taken-requires c κs = search needs
-
-shown-requires : tie.Need-shown-requires
-shown-requires c κs = search needs
-
 -- the test of the bytes is the comparison
 compared : (c : tie.After-shown) → let s = now (c .before .before .before .before .args .s) in eqList (recordOf (deviceAt s)) s ≡ c .shown .result
 unfolding recordOf
@@ -37,12 +31,6 @@ unfolding decodeOf
 returns-2 c =
     other-image deviceAt recordOf inRange (now (c .before .before .before .before .before .args .s)) (c .before .before .before .if1 .left)
     (compared (c .before) ∙ not-true _ (c .if2 .taken))
-
-device-at-requires : tie.Need-device-at-requires
-device-at-requires c κs = search needs
-
-in-range-requires : tie.Need-in-range-requires
-in-range-requires c κs = search needs
 
 lifted : (c : tie.After-device-at) → c .device-at .result ≡ deviceAt (now (c .before .before .before .before .before .before .args .s))
 lifted c = c .device-at .ensures ∙ ap deviceAt (c .before .before .before .taken .ensures)
@@ -69,12 +57,5 @@ returns-4 c =
 pub decode-spec : {M : Type 1} → statement M
 decode-spec =
     tie.close
-    (tie.spec
-    returns
-    taken-requires
-    shown-requires
-    returns-2
-    device-at-requires
-    in-range-requires
-    returns-3
-    returns-4)
+    (tie.spec returns (λ c κs. search needs) (λ c κs. search needs) returns-2 (λ c κs. search needs)
+    (λ c κs. search needs) returns-3 returns-4)

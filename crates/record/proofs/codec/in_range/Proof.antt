@@ -3,15 +3,10 @@ use borrow.Author.Needs.{needs}
 use Rattle.record.proofs.codec.in_range.Statement.{statement}
 use Rattle.record.proofs.codec.in_range.Tie as tie
 
-usart-fits-requires : tie.Need-usart-fits-requires
-usart-fits-requires c κs = search needs
-
-spi-fits-requires : tie.Need-spi-fits-requires
-spi-fits-requires c κs = search needs
-
 returns : tie.Need-returns
 unfolding inRange
 returns c = rw (c .before .usart-fits .ensures, c .spi-fits .ensures)
 
 pub in-range-spec : {M : Type 1} → statement M
-in-range-spec = tie.close (tie.spec usart-fits-requires spi-fits-requires returns)
+in-range-spec = tie.close
+    (tie.spec (λ c κs. search needs) (λ c κs. search needs) returns)

@@ -6,15 +6,6 @@ use borrow.Author.Needs.{needs}
 use Rattle.record.proofs.codec.store.Statement.{statement}
 use Rattle.record.proofs.codec.store.Tie as tie
 
-image-requires : tie.Need-image-requires
-image-requires c κs = search needs
-
-put-requires : tie.Need-put-requires
-put-requires c κs = search needs
-
-same-length : tie.Need-same-length
-same-length c = search needs
-
 returns : tie.Need-returns
 unfolding storedOf recordOf
 returns c =
@@ -26,4 +17,5 @@ unfolding storedOf
 returns-2 c = search picks
 
 pub store-spec : {M : Type 1} → statement M
-store-spec = tie.close (tie.spec image-requires put-requires same-length returns returns-2)
+store-spec = tie.close
+    (tie.spec (λ c κs. search needs) (λ c κs. search needs) (λ c. search needs) returns returns-2)

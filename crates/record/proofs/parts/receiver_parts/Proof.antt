@@ -2,24 +2,6 @@ use borrow.Author.Needs.{needs}
 use Rattle.record.proofs.parts.receiver_parts.Statement.{statement}
 use Rattle.record.proofs.parts.receiver_parts.Tie as tie
 
-receiving-requires : tie.Need-receiving-requires
-receiving-requires c κs = search needs
-
-remembered-requires : tie.Need-remembered-requires
-remembered-requires c κs = search needs
-
-reception-requires : tie.Need-reception-requires
-reception-requires c κs = search needs
-
-held-requires : tie.Need-held-requires
-held-requires c κs = search needs
-
-oldest-requires : tie.Need-oldest-requires
-oldest-requires c κs = search needs
-
-second-requires : tie.Need-second-requires
-second-requires c κs = search needs
-
 returns : tie.Need-returns
 returns c =
     rw (
@@ -34,11 +16,5 @@ returns c =
 pub receiver-parts-spec : {M : Type 1} → statement M
 receiver-parts-spec =
     tie.close
-    (tie.spec
-    receiving-requires
-    remembered-requires
-    reception-requires
-    held-requires
-    oldest-requires
-    second-requires
-    returns)
+    (tie.spec (λ c κs. search needs) (λ c κs. search needs) (λ c κs. search needs) (λ c κs. search needs)
+    (λ c κs. search needs) (λ c κs. search needs) returns)

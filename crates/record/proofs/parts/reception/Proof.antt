@@ -2,17 +2,9 @@ use borrow.Author.Needs.{needs}
 use Rattle.record.proofs.parts.reception.Statement.{statement}
 use Rattle.record.proofs.parts.reception.Tie as tie
 
-enum-told : tie.Need-enum-told
-enum-told c = search needs
-
-enum-known-s : tie.Need-enum-known-s
-enum-known-s c = search needs
-
 returns : tie.Need-returns
 returns c = rw (c .enum-told .given .1)
 
-returns-2 : tie.Need-returns-2
-returns-2 c = search needs
-
 pub reception-spec : {M : Type 1} → statement M
-reception-spec = tie.close (tie.spec enum-told enum-known-s returns returns-2)
+reception-spec = tie.close
+    (tie.spec (λ c. search needs) (λ c. search needs) returns (λ c. search needs))

@@ -4,9 +4,6 @@ use borrow.Author.Needs.{needs}
 use Rattle.record.proofs.spi_ranges.counts_fit.Statement.{statement}
 use Rattle.record.proofs.spi_ranges.counts_fit.Tie as tie
 
-half-requires : tie.Need-half-requires
-half-requires c κs = search needs
-
 returns : tie.Need-returns
 returns c =
     let t = c .before .before .before .args .t in
@@ -15,4 +12,5 @@ returns c =
     rw (lt-ltb (t .shift) 256 s, lt-ltb (t .received) 256 r, c .before .before .half .ensures)
 
 pub counts-fit-spec : {M : Type 1} → statement M
-counts-fit-spec = tie.close (tie.spec half-requires returns)
+counts-fit-spec = tie.close
+    (tie.spec (λ c κs. search needs) returns)

@@ -4,9 +4,6 @@ use borrow.Author.Needs.{needs}
 use Rattle.record.proofs.spi_ranges.due_fits.Statement.{statement}
 use Rattle.record.proofs.spi_ranges.due_fits.Tie as tie
 
-master-requires : tie.Need-master-requires
-master-requires c κs = search needs
-
 returns : tie.Need-returns
 unfolding dueFits
 returns c = search picks
@@ -20,4 +17,5 @@ unfolding dueFits
 returns-3 c = search picks
 
 pub due-fits-spec : {M : Type 1} → statement M
-due-fits-spec = tie.close (tie.spec master-requires returns returns-2 returns-3)
+due-fits-spec = tie.close
+    (tie.spec (λ c κs. search needs) returns returns-2 returns-3)

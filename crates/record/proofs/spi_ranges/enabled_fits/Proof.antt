@@ -4,9 +4,6 @@ use borrow.Author.Needs.{needs}
 use Rattle.record.proofs.spi_ranges.enabled_fits.Statement.{statement}
 use Rattle.record.proofs.spi_ranges.enabled_fits.Tie as tie
 
-enabled-requires : tie.Need-enabled-requires
-enabled-requires c κs = search needs
-
 returns : tie.Need-returns
 unfolding enabledFits
 returns c = search picks
@@ -16,4 +13,5 @@ unfolding enabledFits
 returns-2 c = search picks
 
 pub enabled-fits-spec : {M : Type 1} → statement M
-enabled-fits-spec = tie.close (tie.spec enabled-requires returns returns-2)
+enabled-fits-spec = tie.close
+    (tie.spec (λ c κs. search needs) returns returns-2)

@@ -4,9 +4,6 @@ use borrow.Author.Needs.{needs}
 use Rattle.record.proofs.spi_ranges.spi_fits.Statement.{statement}
 use Rattle.record.proofs.spi_ranges.spi_fits.Tie as tie
 
-transfer-fits-requires : tie.Need-transfer-fits-requires
-transfer-fits-requires c κs = search needs
-
 returns : tie.Need-returns
 returns c =
     let s = c .before .before .before .args .s in
@@ -15,4 +12,5 @@ returns c =
     rw (lt-ltb (s .control .spcr) 256 p, lt-ltb (s .control .ddrb) 256 q) (c .transfer-fits .ensures)
 
 pub spi-fits-spec : {M : Type 1} → statement M
-spi-fits-spec = tie.close (tie.spec transfer-fits-requires returns)
+spi-fits-spec = tie.close
+    (tie.spec (λ c κs. search needs) returns)

@@ -4,14 +4,9 @@ use borrow.Author.Needs.{needs}
 use Rattle.record.proofs.usart_lift.queue_at.Statement.{statement}
 use Rattle.record.proofs.usart_lift.queue_at.Tie as tie
 
-places-at-requires : tie.Need-places-at-requires
-places-at-requires c κs = search needs
-
-queue-with-requires : tie.Need-queue-with-requires
-queue-with-requires c κs = search needs
-
 returns : tie.Need-returns
 returns c = c .queue-with .ensures ∙ ap (queueWith (c .before .before .args .b)) (c .before .places-at .ensures)
 
 pub queue-at-spec : {M : Type 1} → statement M
-queue-at-spec = tie.close (tie.spec places-at-requires queue-with-requires returns)
+queue-at-spec = tie.close
+    (tie.spec (λ c κs. search needs) (λ c κs. search needs) returns)

@@ -4,15 +4,6 @@ use borrow.Author.Needs.{needs}
 use Rattle.record.proofs.usart_lift.sender_at.Statement.{statement}
 use Rattle.record.proofs.usart_lift.sender_at.Tie as tie
 
-buffer-at-requires : tie.Need-buffer-at-requires
-buffer-at-requires c κs = search needs
-
-shifter-at-requires : tie.Need-shifter-at-requires
-shifter-at-requires c κs = search needs
-
-sender-with-requires : tie.Need-sender-with-requires
-sender-with-requires c κs = search needs
-
 returns : tie.Need-returns
 returns c =
     c .sender-with .ensures
@@ -20,4 +11,5 @@ returns c =
 
 pub sender-at-spec : {M : Type 1} → statement M
 sender-at-spec =
-    tie.close (tie.spec buffer-at-requires shifter-at-requires sender-with-requires returns)
+    tie.close
+    (tie.spec (λ c κs. search needs) (λ c κs. search needs) (λ c κs. search needs) returns)

@@ -5,18 +5,10 @@ use borrow.Author.Needs.{needs}
 use Rattle.record.proofs.usart_lift.shifter_at.Statement.{statement}
 use Rattle.record.proofs.usart_lift.shifter_at.Tie as tie
 
-array-read-shifter-of : tie.Need-array-read-shifter-of
-array-read-shifter-of c = search needs
-
-transmission-at-requires : tie.Need-transmission-at-requires
-transmission-at-requires c κs = search needs
-
-shifter-of-requires : tie.Need-shifter-of-requires
-shifter-of-requires c κs = search needs
-
 returns : tie.Need-returns
 returns c = c .shifter-of .ensures ∙ ap (shifterOf (setAt (c .before .before .args .t1) 18)) (c .before .transmission-at .ensures)
 
 pub shifter-at-spec : {M : Type 1} → statement M
 shifter-at-spec =
-    tie.close (tie.spec array-read-shifter-of transmission-at-requires shifter-of-requires returns)
+    tie.close
+    (tie.spec (λ c. search needs) (λ c κs. search needs) (λ c κs. search needs) returns)

@@ -2,17 +2,9 @@ use borrow.Author.Needs.{needs}
 use Rattle.record.proofs.usart_ranges.buffer_below.Statement.{statement}
 use Rattle.record.proofs.usart_ranges.buffer_below.Tie as tie
 
-enum-told : tie.Need-enum-told
-enum-told c = search needs
-
-enum-known-b : tie.Need-enum-known-b
-enum-known-b c = search needs
-
-returns : tie.Need-returns
-returns c = search needs
-
 returns-2 : tie.Need-returns-2
 returns-2 c = rw (c .before .b .given .1)
 
 pub buffer-below-spec : {M : Type 1} → statement M
-buffer-below-spec = tie.close (tie.spec enum-told enum-known-b returns returns-2)
+buffer-below-spec = tie.close
+    (tie.spec (λ c. search needs) (λ c. search needs) (λ c. search needs) returns-2)

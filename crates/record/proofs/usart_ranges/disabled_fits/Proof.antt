@@ -8,12 +8,10 @@ returns : tie.Need-returns
 unfolding disabledFits
 returns c = search picks
 
-stopped-requires : tie.Need-stopped-requires
-stopped-requires c κs = search needs
-
 returns-2 : tie.Need-returns-2
 unfolding disabledFits
 returns-2 c = search picks
 
 pub disabled-fits-spec : {M : Type 1} → statement M
-disabled-fits-spec = tie.close (tie.spec returns stopped-requires returns-2)
+disabled-fits-spec = tie.close
+    (tie.spec returns (λ c κs. search needs) returns-2)

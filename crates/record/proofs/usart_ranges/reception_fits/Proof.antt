@@ -4,14 +4,9 @@ use borrow.Author.Needs.{needs}
 use Rattle.record.proofs.usart_ranges.reception_fits.Statement.{statement}
 use Rattle.record.proofs.usart_ranges.reception_fits.Tie as tie
 
-reception-within-requires : tie.Need-reception-within-requires
-reception-within-requires c κs = search needs
-
-undecided-requires : tie.Need-undecided-requires
-undecided-requires c κs = search needs
-
 returns : tie.Need-returns
 returns c = ap₂ (_&&_) (c .before .reception-within .ensures) (c .undecided .ensures)
 
 pub reception-fits-spec : {M : Type 1} → statement M
-reception-fits-spec = tie.close (tie.spec reception-within-requires undecided-requires returns)
+reception-fits-spec = tie.close
+    (tie.spec (λ c κs. search needs) (λ c κs. search needs) returns)

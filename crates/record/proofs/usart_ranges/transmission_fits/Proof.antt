@@ -2,15 +2,6 @@ use borrow.Author.Needs.{needs}
 use Rattle.record.proofs.usart_ranges.transmission_fits.Statement.{statement}
 use Rattle.record.proofs.usart_ranges.transmission_fits.Tie as tie
 
-word-limit-requires : tie.Need-word-limit-requires
-word-limit-requires c κs = search needs
-
-last-bit-requires : tie.Need-last-bit-requires
-last-bit-requires c κs = search needs
-
-samples-requires : tie.Need-samples-requires
-samples-requires c κs = search needs
-
 returns : tie.Need-returns
 returns c =
     rw (
@@ -21,4 +12,5 @@ returns c =
 
 pub transmission-fits-spec : {M : Type 1} → statement M
 transmission-fits-spec =
-    tie.close (tie.spec word-limit-requires last-bit-requires samples-requires returns)
+    tie.close
+    (tie.spec (λ c κs. search needs) (λ c κs. search needs) (λ c κs. search needs) returns)

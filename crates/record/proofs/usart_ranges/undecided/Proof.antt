@@ -5,26 +5,10 @@ use Rattle.record.specs.Ranges.{isUndecided}
 use borrow.Author.Needs.{needs}
 use Rattle.record.proofs.usart_ranges.undecided.Statement.{statement}
 use Rattle.record.proofs.usart_ranges.undecided.Tie as tie
-use Rattle.record.proofs.usart_ranges.undecided.Reads as reads
-use Rattle.record.proofs.usart_ranges.undecided.Lts as lts
-use Rattle.frame.proofs.format.Format.first_vote.Reads as first-vote-reads
-use Rattle.frame.proofs.format.Format.word_bits.Reads as word-bits-reads
 
 returns : tie.Need-returns
 unfolding isUndecided
 returns c = pick-true _ _ _ _ (eq-eqb _ _ (c .before .if1 .taken)) refl
-
-word-bits-requires : tie.Need-word-bits-requires
-word-bits-requires c κs = search needs
-
-add-if2 : tie.Need-add-if2
-add-if2 c = search needs
-
-first-vote-requires : tie.Need-first-vote-requires
-first-vote-requires c κs = search needs
-
-add-result : tie.Need-add-result
-add-result c = search needs
 
 returns-2 : tie.Need-returns-2
 unfolding isUndecided
@@ -37,11 +21,5 @@ returns-3 c = rw (← c .before .before .word-bits .ensures .0) (pick-false _ _ 
 pub undecided-spec : {M : Type 1} → statement M
 undecided-spec =
     tie.close
-    (tie.spec
-    returns
-    word-bits-requires
-    add-if2
-    first-vote-requires
-    add-result
-    returns-2
+    (tie.spec returns (λ c κs. search needs) (λ c. search needs) (λ c κs. search needs) (λ c. search needs) returns-2
     returns-3)

@@ -3,8 +3,6 @@ use borrow.Author.Tests.{ne-eqb}
 use Rattle.device.specs.Address.{placeOf}
 use Rattle.device.proofs.address.Place.of.Statement.{statement}
 use Rattle.device.proofs.address.Place.of.Tie as tie
-use Rattle.device.proofs.address.Place.of.Reads as reads
-use Rattle.device.proofs.address.Place.of.Lts as lts
 
 returns : tie.Need-returns
 unfolding placeOf

@@ -5,7 +5,7 @@ use Rattle.device.proofs.unit.Device.clocks.Statement.{statement}
 use Rattle.device.proofs.unit.Device.clocks.Tie as tie
 
 master-clocks-requires : tie.Need-master-clocks-requires
-master-clocks-requires c κs = (sym (c .before .before .commands .ensures) ∙ c .before .if1 .taken, search needs)
+master-clocks-requires c κs = (sym (c .before .before .keeps-master .ensures) ∙ c .before .if1 .taken, search needs)
 
 returns : tie.Need-returns
 returns c =

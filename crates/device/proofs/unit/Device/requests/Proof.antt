@@ -4,16 +4,6 @@ use Rattle.device.proofs.OutputLaws.{requests-fit}
 use borrow.Author.Needs.{needs}
 use Rattle.device.proofs.unit.Device.requests.Statement.{statement}
 use Rattle.device.proofs.unit.Device.requests.Tie as tie
-use Rattle.device.proofs.unit.Device.requests.Reads as reads
-use Rattle.device.proofs.unit.Device.requests.Lts as lts
-use Rattle.spi.proofs.unit.Spi.requests.Reads as unit-Spi-requests-reads
-use Rattle.usart.proofs.unit.Usart.requests.Reads as unit-Usart-requests-reads
-
-requests-requires : tie.Need-requests-requires
-requests-requires c κs = search needs
-
-requests-requires-2 : tie.Need-requests-requires-2
-requests-requires-2 c κs = search needs
 
 add-result : tie.Need-add-result
 add-result c = record { fits = requests-fit (c .before .before .args .self .usart) (c .before .before .args .self .spi) (c .before .requests .ensures) (c .requests2 .ensures) }
@@ -22,4 +12,5 @@ returns : tie.Need-returns
 returns c = ap₂ (_+_) (c .before .requests .ensures) (c .requests2 .ensures)
 
 pub requests-spec : {M : Type 1} → statement M
-requests-spec = tie.close (tie.spec requests-requires requests-requires-2 add-result returns)
+requests-spec = tie.close
+    (tie.spec (λ c κs. search needs) (λ c κs. search needs) add-result returns)

@@ -1,18 +1,6 @@
 use borrow.Author.Needs.{needs}
 use Rattle.device.proofs.unit.Device.serial_written.Statement.{statement}
 use Rattle.device.proofs.unit.Device.serial_written.Tie as tie
-use Rattle.device.proofs.unit.Device.serial_written.Reads as reads
-use Rattle.device.proofs.unit.Device.serial_written.Lts as lts
-use Rattle.device.proofs.unit.Device.with_usart.Reads as with-usart-reads
-
-enum-known-w : tie.Need-enum-known-w
-enum-known-w c = search needs
-
-with-usart-requires : tie.Need-with-usart-requires
-with-usart-requires c κs = search needs
-
-enum-known-w-2 : tie.Need-enum-known-w-2
-enum-known-w-2 c = search needs
 
 returns : tie.Need-returns
 returns c = rw (c .before .before .w .given .1, c .with-usart .ensures)
@@ -23,4 +11,4 @@ returns-2 c = rw (c .before .w2 .given .1)
 pub serial-written-spec : {M : Type 1} → statement M
 serial-written-spec =
     tie.close
-    (tie.spec enum-known-w with-usart-requires enum-known-w-2 returns returns-2)
+    (tie.spec (λ c. search needs) (λ c κs. search needs) (λ c. search needs) returns returns-2)

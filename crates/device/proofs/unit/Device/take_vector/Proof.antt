@@ -6,28 +6,10 @@ use Rattle.device.specs.Register.{vectorOf}
 use borrow.Author.Needs.{needs}
 use Rattle.device.proofs.unit.Device.take_vector.Statement.{statement}
 use Rattle.device.proofs.unit.Device.take_vector.Tie as tie
-use Rattle.device.proofs.unit.Device.take_vector.Reads as reads
-use Rattle.device.proofs.unit.Device.take_vector.Lts as lts
-use Rattle.device.proofs.unit.Device.serial_written.Reads as serial-written-reads
-use Rattle.device.proofs.unit.Device.spi_written.Reads as spi-written-reads
-use Rattle.spi.proofs.unit.Spi.take_vector.Reads as unit-Spi-take-vector-reads
-use Rattle.usart.proofs.unit.Usart.take_vector.Reads as unit-Usart-take-vector-reads
-
-take-vector-requires : tie.Need-take-vector-requires
-take-vector-requires c κs = search needs
-
-serial-written-requires : tie.Need-serial-written-requires
-serial-written-requires c κs = search needs
 
 returns : tie.Need-returns
 unfolding vectorOf
 returns c = pick-true _ _ _ _ (eq-eqb _ _ (c .before .before .if1 .taken)) (c .serial-written .ensures ∙ ap (serialWritten _) (c .before .take-vector .ensures))
-
-take-vector-requires-2 : tie.Need-take-vector-requires-2
-take-vector-requires-2 c κs = search needs
-
-spi-written-requires : tie.Need-spi-written-requires
-spi-written-requires c κs = search needs
 
 returns-2 : tie.Need-returns-2
 unfolding vectorOf
@@ -40,11 +22,5 @@ returns-3 c = pick-false _ _ _ _ (ne-eqb _ _ (c .before .if1 .left)) (pick-false
 pub take-vector-spec : {M : Type 1} → statement M
 take-vector-spec =
     tie.close
-    (tie.spec
-    take-vector-requires
-    serial-written-requires
-    returns
-    take-vector-requires-2
-    spi-written-requires
-    returns-2
-    returns-3)
+    (tie.spec (λ c κs. search needs) (λ c κs. search needs) returns (λ c κs. search needs) (λ c κs. search needs)
+    returns-2 returns-3)
