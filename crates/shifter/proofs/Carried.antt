@@ -1,27 +1,18 @@
 -- The whole byte of whoever carries it, and the clocks of a master's edges: the induction over events, once.
 use Prim.Native.Nat.{ℕ, zero, suc, _+_, _-_, _*_, _≤_, _<_}
-use mathlib.Core.Bool.{Bool, true, false}
+use mathlib.Core.Bool.{true}
 use mathlib.Core.List.{List, [], _∷_, _++_}
-use mathlib.Core.Path.{_≡_, refl, sym, ap, ap₂, subst, _∙_}
+use mathlib.Core.Path.{_≡_, refl, sym, subst, _∙_}
 use native.Mathlib.Omega.{arith}
 use lib.ListN.{length}
 use borrow.Author.Tests.{eqb-true}
-use Rattle.choice.specs.Pick.{pick}
 use Rattle.choice.proofs.Picks.{split, both, clash}
-use Rattle.shifter.specs.Edge.{isSampling, edgeOf}
+use Rattle.shifter.specs.Edge.{edgeOf}
 use Rattle.shifter.specs.Byte.{afterEdges, sampledAt, shownAt, Presented}
 use Rattle.shifter.specs.Carrier.{Carrier, finalOf, clocksIn, isUndisturbed, inputsAt, outsAt, isUpTo, Carries, Edges, Paces}
 use Rattle.shifter.specs.declared.Mode.{Mode}
 use Rattle.shifter.specs.declared.Shifter.{Shifter}
-use Rattle.shifter.proofs.Byte.{whole-byte, out-kept}
-
--- at a sampling edge the bit that was out before it is out after it
-shown : (m : Mode) (k : ℕ) (r : Shifter) (i o : Bool) (os xs : List Bool)
-    → (isSampling (m .cpha) (k + 1) ≡ true → o ≡ edgeOf m r (k + 1) i .out) → os ≡ xs
-    → pick (isSampling (m .cpha) (k + 1)) (o ∷ os) os ≡ pick (isSampling (m .cpha) (k + 1)) (r .out ∷ xs) xs
-shown m k r i o os xs ho hs =
-    split (isSampling (m .cpha) (k + 1))
-    (λ e. rw e (ap₂ (λ (b : Bool) (z : List Bool). b ∷ z) (ho e ∙ out-kept m r (k + 1) i e) hs)) (λ e. rw e hs)
+use Rattle.shifter.proofs.Byte.{whole-byte, shown-before}
 
 module _ {S E : Type 0} (c : Carrier S E) where
   -- what follows is not the last edge
@@ -42,7 +33,7 @@ module _ {S E : Type 0} (c : Carrier S E) where
     closes [] s e r a kp i u =
         let x = w .ends s e r a kp i in
         record {
-          sent = rw i (shown m 15 r (c .input s e) (c .out (c .next s e)) [] [] (x .1) refl);
+          sent = rw i (shown-before m r 16 (c .input s e) (c .out (c .next s e)) [] [] (x .1) refl);
           count = rw i refl;
           ended = rw i (x .0);
         }
@@ -52,7 +43,7 @@ module _ {S E : Type 0} (c : Carrier S E) where
         → c .out (c .next s e) ≡ edgeOf m r (k + 1) (c .input s e) .out
         → Whole (c .next s e) (k + 1) (edgeOf m r (k + 1) (c .input s e)) es → Whole s k r (e ∷ es)
     turns es s e k r i o x = record {
-      sent = rw i (shown m k r (c .input s e) (c .out (c .next s e)) _ _ (λ _. o) (x .sent));
+      sent = rw i (shown-before m r (k + 1) (c .input s e) (c .out (c .next s e)) _ _ (λ _. o) (x .sent));
       count = rw i (omega (arith, x .count));
       ended = rw i (x .ended);
     }

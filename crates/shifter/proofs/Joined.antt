@@ -1,8 +1,8 @@
 -- Two shift registers joined: after 16 edges each holds the other's byte.
 use Prim.Native.Nat.{ℕ, zero, suc, _+_, _<_}
-use mathlib.Core.Bool.{Bool, true, false}
+use mathlib.Core.Bool.{Bool}
 use mathlib.Core.List.{List, [], _∷_}
-use mathlib.Core.Path.{_≡_, refl, sym, ap, ap₂, _∙_}
+use mathlib.Core.Path.{_≡_, refl, sym, ap, _∙_}
 use lib.ListN.{length}
 use Rattle.choice.specs.Pick.{pick}
 use Rattle.shifter.specs.Edge.{isSampling}
@@ -10,7 +10,7 @@ use Rattle.shifter.specs.Byte.{afterEdges, sampledAt, shownAt, Presented
 use Rattle.shifter.specs.declared.Mode.{Mode}
 use Rattle.shifter.specs.declared.Shifter.{Shifter}
 use Rattle.shifter.proofs.Laws.{bits-injective}
-use Rattle.shifter.proofs.Byte.{whole-byte, out-kept}
+use Rattle.shifter.proofs.Byte.{whole-byte, shown-before}
 
 module _ (m : Mode) where
   -- what each sees at its edges
@@ -22,49 +22,37 @@ module _ (m : Mode) where
   slaveSees j k zero = []
   slaveSees j k (suc n) = joinedEdge m j (k + 1) .master .out ∷ slaveSees (joinedEdge m j (k + 1)) (k + 1) n
 
-  master-length : (j : Joined) (k n : ℕ) → length (masterSees j k n) ≡ n
-  master-length j k zero = refl
-  master-length j k (suc n) = ap suc (master-length (joinedEdge m j (k + 1)) (k + 1) n)
-
-  slave-length : (j : Joined) (k n : ℕ) → length (slaveSees j k n) ≡ n
-  slave-length j k zero = refl
-  slave-length j k (suc n) = ap suc (slave-length (joinedEdge m j (k + 1)) (k + 1) n)
-
-  master-after : (j : Joined) (k n : ℕ) → afterEdges m (j .master) k (masterSees j k n) ≡ joinedEdges m j k n .master
-  master-after j k zero = refl
-  master-after j k (suc n) = master-after (joinedEdge m j (k + 1)) (k + 1) n
-
-  slave-after : (j : Joined) (k n : ℕ) → afterEdges m (j .slave) k (slaveSees j k n) ≡ joinedEdges m j k n .slave
-  slave-after j k zero = refl
-  slave-after j k (suc n) = slave-after (joinedEdge m j (k + 1)) (k + 1) n
-
   -- each samples what the other shows
-  master-samples : (j : Joined) (k n : ℕ) → sampledAt (m .cpha) k (masterSees j k n) ≡ shownAt m (j .slave) k (slaveSees j k n)
-  master-samples j k zero = refl
-  master-samples j k (suc n) =
-      ap (λ (z : List Bool). pick (isSampling (m .cpha) (k + 1)) (j .slave .out ∷ z) z) (master-samples (joinedEdge m j (k + 1)) (k + 1) n)
+  record Seen (j : Joined) (k n : ℕ) : Type 0 where
+    lengths : (length (masterSees j k n) ≡ n) × (length (slaveSees j k n) ≡ n)
+    master : afterEdges m (j .master) k (masterSees j k n) ≡ joinedEdges m j k n .master
+    slave : afterEdges m (j .slave) k (slaveSees j k n) ≡ joinedEdges m j k n .slave
+    masterSamples : sampledAt (m .cpha) k (masterSees j k n) ≡ shownAt m (j .slave) k (slaveSees j k n)
+    slaveSamples : sampledAt (m .cpha) k (slaveSees j k n) ≡ shownAt m (j .master) k (masterSees j k n)
 
-  slave-samples : (j : Joined) (k n : ℕ) → sampledAt (m .cpha) k (slaveSees j k n) ≡ shownAt m (j .master) k (masterSees j k n)
-  slave-samples j k zero = refl
-  slave-samples j k (suc n) = by (isSampling (m .cpha) (k + 1)) refl (slave-samples (joinedEdge m j (k + 1)) (k + 1) n)
-    where
-      by : {xs ys : List Bool} (t : Bool) → isSampling (m .cpha) (k + 1) ≡ t → xs ≡ ys
-          → pick t (joinedEdge m j (k + 1) .master .out ∷ xs) xs ≡ pick t (j .master .out ∷ ys) ys
-      by true h e = ap₂ (λ (b : Bool) (z : List Bool). b ∷ z) (out-kept m (j .master) (k + 1) (j .slave .out) h) e
-      by false h e = e
+  seen : (j : Joined) (k n : ℕ) → Seen j k n
+  seen j k zero = record { lengths = (refl, refl); master = refl; slave = refl; masterSamples = refl; slaveSamples = refl }
+  seen j k (suc n) =
+      let x = seen (joinedEdge m j (k + 1)) (k + 1) n in
+      record {
+        lengths = (ap suc (x .lengths .0), ap suc (x .lengths .1));
+        master = x .master;
+        slave = x .slave;
+        masterSamples = ap (λ (z : List Bool). pick (isSampling (m .cpha) (k + 1)) (j .slave .out ∷ z) z) (x .masterSamples);
+        slaveSamples = shown-before m (j .master) (k + 1) (j .slave .out) _ _ _ (λ _. refl) (x .slaveSamples);
+      }
 
 -- with CPHA 0 both first bits must be out before edge 1
 pub swaps : (m : Mode) (j : Joined) → j .master .shift < 256 → j .slave .shift < 256 → Presented m (j .master) → Presented m (j .slave) → Swaps m j
 swaps m j hm hs pm ps =
-    let a : WholeByte m (j .master) (masterSees m j 0 16) = whole-byte m (j .master) (masterSees m j 0 16) (master-length m j 0 16) hm pm in
-    let b : WholeByte m (j .slave) (slaveSees m j 0 16) = whole-byte m (j .slave) (slaveSees m j 0 16) (slave-length m j 0 16) hs ps in
-    let am = master-after m j 0 16 in
-    let bm = slave-after m j 0 16 in
+    let x : Seen m j 0 16 = seen m j 0 16 in
+    let a : WholeByte m (j .master) (masterSees m j 0 16) = whole-byte m (j .master) (masterSees m j 0 16) (x .lengths .0) hm pm in
+    let b : WholeByte m (j .slave) (slaveSees m j 0 16) = whole-byte m (j .slave) (slaveSees m j 0 16) (x .lengths .1) hs ps in
     record {
       master =
-          sym (ap (λ (r : Shifter). r .shift) am)
-          ∙ bits-injective (m .dord) _ _ (a .byte) hs (a .taken ∙ master-samples m j 0 16 ∙ b .shown);
+          sym (ap (λ (r : Shifter). r .shift) (x .master))
+          ∙ bits-injective (m .dord) _ _ (a .byte) hs (a .taken ∙ x .masterSamples ∙ b .shown);
       slave =
-          sym (ap (λ (r : Shifter). r .shift) bm)
-          ∙ bits-injective (m .dord) _ _ (b .byte) hm (b .taken ∙ slave-samples m j 0 16 ∙ a .shown);
+          sym (ap (λ (r : Shifter). r .shift) (x .slave))
+          ∙ bits-injective (m .dord) _ _ (b .byte) hm (b .taken ∙ x .slaveSamples ∙ a .shown);
     }

@@ -1,5 +1,5 @@
 -- The wires as the output bytes show them, and the edges that a slave sees on SCK.
-use Prim.Native.Nat.{ℕ, _+_, _-_, _*_, _%_}
+use Prim.Native.Nat.{ℕ, _+_, _*_, _%_}
 use mathlib.Core.Bool.{Bool, true, false, not}
 use mathlib.Core.Path.{_≡_, refl}
 use native.Mathlib.Omega.{arith}

@@ -69,8 +69,8 @@ module _ (c : Control) where
       })
 
   module _ (x : ℕ) (up : Bool) where
-    -- an enabled unit k edges into a byte, with r in the shift register and out, and x in the receive buffer; SPIF has not
-    -- risen since it was `up`
+    -- an enabled unit k edges into a byte, with r in the shift register and out, and x in the receive buffer; SPIF has
+    -- not risen since it was `up`
     pub record At (s : Spi) (k : ℕ) (r : Shifter) : Type 0 where
       pub control : s .control ≡ c
       pub enabled : isEnabled (s .control) ≡ true

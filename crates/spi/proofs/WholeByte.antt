@@ -3,7 +3,7 @@
 use Prim.Native.Nat.{ℕ, _+_, _<_}
 use mathlib.Core.Bool.{Bool, true, false}
 use mathlib.Core.List.{List}
-use mathlib.Core.Path.{_≡_, refl, sym, ap, subst, _∙_}
+use mathlib.Core.Path.{_≡_, refl, sym, ap, subst}
 use Rattle.choice.proofs.Picks.{clash}
 use Rattle.shifter.specs.Byte.{Presented}
 use Rattle.shifter.specs.Edge.{isSampling, edgeOf}

@@ -1,10 +1,9 @@
 -- A master and a slave on one wire exchange their bytes: the induction over their clocks.
-use Prim.Native.Nat.{ℕ, zero, suc, _+_, _-_, _*_, _%_, _≤_, _<_}
+use Prim.Native.Nat.{ℕ, zero, suc, _+_, _-_, _*_, _≤_, _<_}
 use mathlib.Core.Bool.{Bool, true, false}
 use mathlib.Core.List.{List, [], _∷_}
 use mathlib.Core.Path.{_≡_, refl, sym, ap, subst, _∙_}
 use native.Mathlib.Omega.{arith}
-use lib.Dec.{eqb}
 use borrow.Author.Tests.{eq-eqb}
 use Rattle.choice.proofs.Picks.{split, clash}
 use Rattle.shifter.specs.Edge.{edgeOf}
@@ -13,9 +12,8 @@ use Rattle.shifter.specs.Byte.{Presented, Joined, joinedEdges}
 use Rattle.shifter.specs.declared.Mode.{Mode}
 use Rattle.shifter.specs.declared.Shifter.{Shifter}
 use Rattle.shifter.proofs.Joined.{swaps}
-use Rattle.spi.specs.Control.{isEnabled, isMaster, cpolOf, modeOf, half, isInput, isModeFault}
+use Rattle.spi.specs.Control.{isMaster, cpolOf, modeOf, half, isInput, isModeFault}
 use Rattle.spi.specs.Means.{differs}
-use Rattle.spi.specs.Unit.{sckOf}
 use Rattle.spi.specs.Clock.{isSckEdge, clockOf}
 use Rattle.spi.specs.Register.{writeSpdr}
 use Rattle.spi.specs.Event.{isKept, edgeAt, inputOf, outOf}

@@ -1,6 +1,4 @@
-use mathlib.Core.Path.{refl}
-use borrow.Author.Tests.{eq-eqb, ne-eqb}
-use Rattle.choice.proofs.Picks.{pick-true, pick-false}
+use Rattle.choice.proofs.Picks.{picks}
 use Rattle.spi.specs.Clock.{isSckEdge}
 use borrow.Author.Needs.{needs}
 use Rattle.spi.proofs.clock.edge_seen.Statement.{statement}
@@ -14,15 +12,15 @@ differs-requires-2 c κs = search needs
 
 returns : tie.Need-returns
 unfolding isSckEdge
-returns c = rw (c .differs2 .ensures, ← c .before .before .before .differs .ensures) (pick-true _ _ _ _ (c .before .before .if1 .taken) (pick-true _ _ _ _ (eq-eqb _ _ (c .before .if2 .taken)) refl))
+returns c = search picks
 
 returns-2 : tie.Need-returns-2
 unfolding isSckEdge
-returns-2 c = rw (← c .before .before .differs .ensures) (pick-true _ _ _ _ (c .before .if1 .taken) (pick-false _ _ _ _ (ne-eqb _ _ (c .if2 .left)) refl))
+returns-2 c = search picks
 
 returns-3 : tie.Need-returns-3
 unfolding isSckEdge
-returns-3 c = rw (← c .before .differs .ensures) (pick-false _ _ _ _ (c .if1 .left) refl)
+returns-3 c = search picks
 
 pub edge-seen-spec : {M : Type 1} → statement M
 edge-seen-spec =

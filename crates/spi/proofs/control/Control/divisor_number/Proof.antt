@@ -1,5 +1,4 @@
-use mathlib.Core.Path.{refl}
-use Rattle.choice.proofs.Picks.{pick-true, pick-false}
+use Rattle.choice.proofs.Picks.{picks}
 use Rattle.spi.specs.Control.{divisorNumber}
 use borrow.Author.Needs.{needs}
 use Rattle.spi.proofs.control.Control.divisor_number.Statement.{statement}
@@ -10,11 +9,11 @@ add-result c = search needs
 
 returns : tie.Need-returns
 unfolding divisorNumber
-returns c = (pick-true _ _ _ _ (c .before .if1 .taken) refl)
+returns c = search picks
 
 returns-2 : tie.Need-returns-2
 unfolding divisorNumber
-returns-2 c = (pick-false _ _ _ _ (c .before .if1 .left) refl)
+returns-2 c = search picks
 
 pub divisor-number-spec : {M : Type 1} → statement M
 divisor-number-spec = tie.close (tie.spec add-result returns returns-2)

@@ -1,5 +1,5 @@
 use mathlib.Core.Path.{refl}
-use Rattle.choice.proofs.Picks.{pick-true, pick-false}
+use Rattle.choice.proofs.Picks.{picks, pick-true}
 use Rattle.spi.specs.Register.{loadedOf}
 use borrow.Author.Needs.{needs}
 use Rattle.spi.proofs.unit.Spi.loaded.Statement.{statement}
@@ -34,24 +34,15 @@ started-requires c κs = search needs
 
 returns-2 : tie.Need-returns-2
 unfolding loadedOf
-returns-2 c =
-    rw (← c .before .before .before .before .before .before .under-way .ensures, ← c .before .before .before .before .enabled .ensures, ← c .before .before .master .ensures)
-    (pick-false _ _ _ _ (c .before .before .before .before .before .if1 .left)
-    (pick-true _ _ _ _ (c .before .before .before .if2 .taken) (pick-true _ _ _ _ (c .before .if3 .taken) (c .started .ensures))))
+returns-2 c = search picks
 
 returns-3 : tie.Need-returns-3
 unfolding loadedOf
-returns-3 c =
-    rw (← c .before .before .before .before .before .under-way .ensures, ← c .before .before .before .enabled .ensures, ← c .before .master .ensures)
-    (pick-false _ _ _ _ (c .before .before .before .before .if1 .left)
-    (pick-true _ _ _ _ (c .before .before .if2 .taken)
-    (pick-false _ _ _ _ (c .if3 .left) (c .before .before .before .before .before .before .filled .ensures))))
+returns-3 c = search picks
 
 returns-4 : tie.Need-returns-4
 unfolding loadedOf
-returns-4 c =
-    rw (← c .before .before .before .under-way .ensures, ← c .before .enabled .ensures)
-    (pick-false _ _ _ _ (c .before .before .if1 .left) (pick-false _ _ _ _ (c .if2 .left) refl))
+returns-4 c = search picks
 
 pub loaded-spec : {M : Type 1} → statement M
 loaded-spec =

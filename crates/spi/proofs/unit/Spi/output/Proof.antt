@@ -1,5 +1,5 @@
 use mathlib.Core.Path.{refl}
-use Rattle.choice.proofs.Picks.{pick-true, pick-false}
+use Rattle.choice.proofs.Picks.{picks, pick-true, pick-false}
 use Rattle.spi.specs.Unit.{outputOf}
 use borrow.Author.Needs.{needs}
 use Rattle.spi.proofs.unit.Spi.output.Statement.{statement}
@@ -35,7 +35,7 @@ returns c = rw (c .pin2 .ensures .0, c .before .sck .ensures, c .before .before 
 
 returns-2 : tie.Need-returns-2
 unfolding outputOf
-returns-2 c = rw (← c .before .before .before .before .enabled .ensures, ← c .before .before .master .ensures) (pick-true _ _ _ _ (c .before .before .before .if1 .taken) (pick-false _ _ _ _ (c .before .if2 .left) (pick-true _ _ _ _ (c .if3 .taken) refl)))
+returns-2 c = search picks
 
 pin-requires-3 : tie.Need-pin-requires-3
 pin-requires-3 c κs = search needs
@@ -49,7 +49,7 @@ returns-3 c = rw (c .pin3 .ensures .0, ← c .before .before .before .before .be
 
 returns-4 : tie.Need-returns-4
 unfolding outputOf
-returns-4 c = rw (← c .before .enabled .ensures) (pick-false _ _ _ _ (c .if1 .left) refl)
+returns-4 c = search picks
 
 pub output-spec : {M : Type 1} → statement M
 output-spec =

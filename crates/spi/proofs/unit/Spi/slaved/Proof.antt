@@ -1,5 +1,5 @@
 use mathlib.Core.Path.{ap, _∙_}
-use Rattle.choice.proofs.Picks.{pick-true, pick-false}
+use Rattle.choice.proofs.Picks.{picks, pick-true}
 use Rattle.spi.specs.Clock.{slaveOf}
 use Rattle.spi.specs.Means.{withTransfer}
 use Rattle.spi.specs.declared.transfer.Transfer.{Transfer}
@@ -24,7 +24,7 @@ selected-requires c κs = search needs
 
 returns-2 : tie.Need-returns-2
 unfolding slaveOf
-returns-2 c = pick-false _ _ _ _ (c .before .if1 .left) (c .selected .ensures)
+returns-2 c = search picks
 
 pub slaved-spec : {M : Type 1} → statement M
 slaved-spec =

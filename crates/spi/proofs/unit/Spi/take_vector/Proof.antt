@@ -1,5 +1,4 @@
-use mathlib.Core.Path.{refl}
-use Rattle.choice.proofs.Picks.{pick-true, pick-false}
+use Rattle.choice.proofs.Picks.{picks}
 use Rattle.spi.specs.Register.{vectorOf}
 use borrow.Author.Needs.{needs}
 use Rattle.spi.proofs.unit.Spi.take_vector.Statement.{statement}
@@ -13,11 +12,11 @@ with-flags-requires c κs = search needs
 
 returns : tie.Need-returns
 unfolding vectorOf
-returns c = rw (← c .before .before .requested .ensures) (pick-true _ _ _ _ (c .before .if1 .taken) rw (c .with-flags .ensures))
+returns c = search picks
 
 returns-2 : tie.Need-returns-2
 unfolding vectorOf
-returns-2 c = rw (← c .before .requested .ensures) (pick-false _ _ _ _ (c .if1 .left) refl)
+returns-2 c = search picks
 
 pub take-vector-spec : {M : Type 1} → statement M
 take-vector-spec = tie.close (tie.spec requested-requires with-flags-requires returns returns-2)
