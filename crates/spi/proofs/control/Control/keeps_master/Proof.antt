@@ -1,6 +1,4 @@
-use mathlib.Core.Bool.{not}
-use mathlib.Core.Path.{ap}
-use Rattle.choice.proofs.Picks.{picks, pick-true}
+use Rattle.choice.proofs.Picks.{picks}
 use Rattle.spi.specs.Control.{keepsMaster}
 use borrow.Author.Needs.{needs}
 use Rattle.spi.proofs.control.Control.keeps_master.Statement.{statement}
@@ -17,9 +15,7 @@ ss-input-requires c κs = search needs
 
 returns : tie.Need-returns
 unfolding keepsMaster
-returns c =
-    rw (← c .before .before .before .before .enabled .ensures, ← c .before .before .master .ensures)
-    (pick-true _ _ _ _ (c .before .before .before .if1 .taken) (pick-true _ _ _ _ (c .before .if2 .taken) (ap not (c .ss-input .ensures))))
+returns c = rw (c .ss-input .ensures) (search picks)
 
 returns-2 : tie.Need-returns-2
 unfolding keepsMaster

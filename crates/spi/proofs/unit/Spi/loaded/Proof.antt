@@ -1,5 +1,4 @@
-use mathlib.Core.Path.{refl}
-use Rattle.choice.proofs.Picks.{picks, pick-true}
+use Rattle.choice.proofs.Picks.{picks}
 use Rattle.spi.specs.Register.{loadedOf}
 use borrow.Author.Needs.{needs}
 use Rattle.spi.proofs.unit.Spi.loaded.Statement.{statement}
@@ -19,9 +18,7 @@ with-flags-requires c κs = search needs
 
 returns : tie.Need-returns
 unfolding loadedOf
-returns c =
-    rw (c .with-flags .ensures, c .before .collided .ensures, ← c .before .before .before .under-way .ensures)
-    (pick-true _ _ _ _ (c .before .before .if1 .taken) refl)
+returns c = rw (c .with-flags .ensures, c .before .collided .ensures) (search picks)
 
 enabled-requires : tie.Need-enabled-requires
 enabled-requires c κs = search needs

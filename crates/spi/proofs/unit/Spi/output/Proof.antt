@@ -1,5 +1,4 @@
-use mathlib.Core.Path.{refl}
-use Rattle.choice.proofs.Picks.{picks, pick-true, pick-false}
+use Rattle.choice.proofs.Picks.{picks}
 use Rattle.spi.specs.Unit.{outputOf}
 use borrow.Author.Needs.{needs}
 use Rattle.spi.proofs.unit.Spi.output.Statement.{statement}
@@ -31,7 +30,7 @@ add-result c = search needs
 
 returns : tie.Need-returns
 unfolding outputOf
-returns c = rw (c .pin2 .ensures .0, c .before .sck .ensures, c .before .before .before .pin .ensures .0, ← c .before .before .before .before .before .before .before .before .enabled .ensures, ← c .before .before .before .before .before .before .master .ensures) (pick-true _ _ _ _ (c .before .before .before .before .before .before .before .if1 .taken) (pick-true _ _ _ _ (c .before .before .before .before .before .if2 .taken) refl))
+returns c = rw (c .pin2 .ensures .0, c .before .sck .ensures, c .before .before .before .pin .ensures .0) (search picks)
 
 returns-2 : tie.Need-returns-2
 unfolding outputOf
@@ -45,7 +44,7 @@ mul-result-3 c = search needs
 
 returns-3 : tie.Need-returns-3
 unfolding outputOf
-returns-3 c = rw (c .pin3 .ensures .0, ← c .before .before .before .before .before .before .enabled .ensures, ← c .before .before .before .before .master .ensures) (pick-true _ _ _ _ (c .before .before .before .before .before .if1 .taken) (pick-false _ _ _ _ (c .before .before .before .if2 .left) (pick-false _ _ _ _ (c .before .before .if3 .left) refl)))
+returns-3 c = rw (c .pin3 .ensures .0) (search picks)
 
 returns-4 : tie.Need-returns-4
 unfolding outputOf

@@ -1,6 +1,4 @@
-use mathlib.Core.Path.{refl}
-use borrow.Author.Tests.{eq-eqb}
-use Rattle.choice.proofs.Picks.{picks, pick-true}
+use Rattle.choice.proofs.Picks.{picks}
 use Rattle.spi.specs.Clock.{presentedOf}
 use borrow.Author.Needs.{needs}
 use Rattle.spi.proofs.unit.Spi.presented.Statement.{statement}
@@ -18,8 +16,7 @@ with-miso-requires c κs = search needs
 returns : tie.Need-returns
 unfolding presentedOf
 returns c =
-    rw (c .with-miso .ensures, c .before .first-out .ensures, c .before .before .before .before .mode .ensures)
-    (pick-true _ _ _ _ (eq-eqb _ _ (c .before .before .if1 .taken)) refl)
+    rw (c .with-miso .ensures, c .before .first-out .ensures, c .before .before .before .before .mode .ensures) (search picks)
 
 returns-2 : tie.Need-returns-2
 unfolding presentedOf

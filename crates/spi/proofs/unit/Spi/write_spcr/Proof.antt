@@ -1,5 +1,4 @@
-use borrow.Author.Tests.{eq-eqb}
-use Rattle.choice.proofs.Picks.{picks, pick-true, pick-false}
+use Rattle.choice.proofs.Picks.{picks}
 use Rattle.spi.specs.Register.{writeSpcr}
 use borrow.Author.Needs.{needs}
 use Rattle.spi.proofs.unit.Spi.write_spcr.Statement.{statement}
@@ -19,22 +18,14 @@ set-spcr-requires c κs = search needs
 
 returns : tie.Need-returns
 unfolding writeSpcr
-returns c =
-    rw (← c .before .before .before .before .before .under-way .ensures)
-    (pick-true _ _ _ _ (c .before .before .before .before .if1 .taken)
-    (pick-true _ _ _ _ (c .before .before .before .if2 .taken)
-    rw (c .set-spcr .ensures, c .before .with-transfer .ensures, c .before .before .dropped .ensures)))
+returns c = rw (c .set-spcr .ensures, c .before .with-transfer .ensures, c .before .before .dropped .ensures) (search picks)
 
 set-spcr-requires-2 : tie.Need-set-spcr-requires-2
 set-spcr-requires-2 c κs = search needs
 
 returns-2 : tie.Need-returns-2
 unfolding writeSpcr
-returns-2 c =
-    rw (← c .before .before .before .before .before .under-way .ensures)
-    (pick-true _ _ _ _ (c .before .before .before .before .if1 .taken)
-    (pick-false _ _ _ _ (c .before .before .before .if2 .left)
-    (pick-true _ _ _ _ (eq-eqb _ _ (c .before .if3 .taken)) rw (c .set-spcr2 .ensures))))
+returns-2 c = rw (c .set-spcr2 .ensures) (search picks)
 
 returns-3 : tie.Need-returns-3
 unfolding writeSpcr

@@ -1,7 +1,7 @@
 use Rattle.shifter.proofs.Laws.{odd-set}
 use Rattle.spi.specs.Register.{writeSpsr}
 use borrow.Author.Needs.{needs}
-use Rattle.choice.proofs.Picks.{picks, pick-true, pick-false}
+use Rattle.choice.proofs.Picks.{picks}
 use Rattle.spi.proofs.unit.Spi.write_spsr.Statement.{statement}
 use Rattle.spi.proofs.unit.Spi.write_spsr.Tie as tie
 
@@ -20,9 +20,7 @@ set-spi2x-requires c κs = search needs
 
 returns-2 : tie.Need-returns-2
 unfolding writeSpsr
-returns-2 c =
-    rw (← odd-set (c .before .before .before .before .before .args .v), ← c .before .before .before .before .differs .ensures, ← c .before .before .under-way .ensures)
-    (pick-true _ _ _ _ (c .before .before .before .if1 .taken) (pick-false _ _ _ _ (c .before .if2 .left) rw (c .set-spi2x .ensures)))
+returns-2 c = rw (← odd-set (c .before .before .before .before .before .args .v), c .set-spi2x .ensures) (search picks)
 
 returns-3 : tie.Need-returns-3
 unfolding writeSpsr
