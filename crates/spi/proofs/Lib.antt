@@ -14,3 +14,4 @@ pub mod WiredTurns
 pub mod Witness
 pub mod OutputLaws
 pub mod RefusalLaws
+pub mod HoldingLaws

@@ -11,3 +11,4 @@ pub mod Event
 pub mod Exchange
 pub mod Wired
 pub mod Refusing
+pub mod Holding

@@ -4,6 +4,7 @@ mod clock;
 mod control;
 mod divisor;
 mod flag;
+mod hold;
 mod register;
 mod transfer;
 mod unit;
