@@ -1,5 +1,5 @@
--- Levels that are held: at rest a clock changes nothing, and a master's clocks before its edge only count. The laws hold
--- of every unit, also one out of its ranges.
+-- Levels that are held: at rest a clock changes nothing, and a master's clocks before its edge only count. The laws
+-- hold of every unit, also one out of its ranges.
 use Prim.Native.Nat.{ℕ, zero, suc, _-_, _≤_, _<_}
 use mathlib.Core.Bool.{Bool, true, false}
 use mathlib.Core.Path.{_≡_, refl, sym, ap, ap₂, _∙_}

@@ -1,5 +1,5 @@
-// One level of each pin held for many clocks. A unit at rest stays as it is, however many there are; a master counts many
-// at once.
+// One level of each pin held for many clocks. A unit at rest stays as it is, however many there are; a master counts
+// many at once.
 use crate::clock::Levels;
 use crate::unit::Spi;
 use crate::unit::differs;
