@@ -1,32 +1,25 @@
 -- A level byte that is held is a run of as many equal level bytes; n clocks and then m are n + m; at rest only the baud counter moves.
 use Prim.Native.Nat.{ℕ, zero, suc, _+_}
 use mathlib.Core.Bool.{true}
-use mathlib.Core.List.{List, [], _∷_}
-use mathlib.Core.Path.{_≡_, refl, sym, ap, ap₂, _∙_}
+use mathlib.Core.Path.{_≡_, refl, ap, ap₂, _∙_}
 use native.Mathlib.Omega.{arith}
-use lib.Dec.{eqb}
 use borrow.Author.Tests.{ne-eqb}
 use lib.ListN.{getD, replicate}
 use Rattle.choice.specs.Times.{times}
 use Rattle.choice.proofs.Picks.{both}
 use Rattle.choice.proofs.TimesLaws.{times-add}
-use Rattle.usart.specs.Unit.{clockOf as serialClock, outputOf as serialOutput, requestsOf as serialRequests}
 use Rattle.usart.specs.Holding.{heldOf as serialHeld, passedBaud, isAtRest as serialRests}
-use Rattle.usart.specs.declared.unit.Usart.{Usart}
 use Rattle.usart.specs.Write.{withBaud}
 use Rattle.usart.proofs.HoldingLaws.{rest-held as serial-rest, rest-output as serial-rest-output, rest-requests as serial-rest-requests}
-use Rattle.spi.specs.Clock.{clockOf as spiClock}
-use Rattle.spi.specs.Unit.{outputOf as spiOutput, requestsOf as spiRequests}
 use Rattle.spi.specs.Holding.{heldOf as spiHeld, isAtRest as spiRests}
-use Rattle.spi.specs.declared.unit.Spi.{Spi}
-use Rattle.spi.proofs.HoldingLaws.{rest-held as spi-rest}
-use Rattle.device.specs.Unit.{rxdIn, levelsIn, clockOf, outputOf, requestsOf}
+use Rattle.spi.proofs.HoldingLaws.{rest-held as spi-rest, rest-output as spi-rest-output, rest-requests as spi-rest-requests}
+use Rattle.device.specs.Unit.{afterOf, withUsart, rxdIn, levelsIn, clockOf, outputOf, requestsOf}
 use Rattle.device.specs.Run.{ranOf, outputsOf}
 use Rattle.device.specs.Holding.{clockAt, heldOf, heldOutput, isAtRest}
 use Rattle.device.specs.declared.unit.Device.{Device}
 
 -- the two units by themselves
-pub held-units : (n : ℕ) (d : Device) (l : ℕ) → heldOf d l n ≡ record { usart = serialHeld (d .usart) (rxdIn l) n; spi = spiHeld (d .spi) (levelsIn l) n }
+pub held-units : (n : ℕ) (d : Device) (l : ℕ) → heldOf d l n ≡ afterOf d (serialHeld (d .usart) (rxdIn l) n) (spiHeld (d .spi) (levelsIn l) n)
 unfolding times
 held-units zero d l = refl
 held-units (suc n) d l = held-units n (clockOf d l) l
@@ -59,23 +52,22 @@ held-output-add d l n m z =
 
 -- at rest: all but the baud counter stays
 pub rest-held : (d : Device) (l n : ℕ) → isAtRest d l ≡ true
-    → heldOf d l n ≡ record { usart = with (d .usart) (passedBaud (d .usart .baud) n) (d .usart .sender) (d .usart .receiver); spi = d .spi }
+    → heldOf d l n ≡ withUsart d (withBaud (d .usart) (passedBaud (d .usart .baud) n))
 unfolding isAtRest
 rest-held d l n h =
     let b = both (serialRests (d .usart) (rxdIn l)) (spiRests (d .spi) (levelsIn l)) h in
-    let pair : Usart → Spi → Device = λ u s. record { usart = u; spi = s } in
-    held-units n d l ∙ ap₂ pair (serial-rest (d .usart) (rxdIn l) n (b .0)) (spi-rest (d .spi) (levelsIn l) n (b .1))
+    held-units n d l ∙ ap₂ (afterOf d) (serial-rest (d .usart) (rxdIn l) n (b .0)) (spi-rest (d .spi) (levelsIn l) n (b .1))
 
 pub rest-output : (d : Device) (l n : ℕ) → isAtRest d l ≡ true → outputOf (heldOf d l n) l ≡ outputOf d l
 unfolding isAtRest
 rest-output d l n h =
     let b = both (serialRests (d .usart) (rxdIn l)) (spiRests (d .spi) (levelsIn l)) h in
     ap (λ (e : Device). outputOf e l) (held-units n d l)
-    ∙ ap₂ (_+_) (serial-rest-output (d .usart) (rxdIn l) n (b .0)) (ap (λ (s : Spi). spiOutput s (levelsIn l .ss)) (spi-rest (d .spi) (levelsIn l) n (b .1)))
+    ∙ ap₂ (_+_) (serial-rest-output (d .usart) (rxdIn l) n (b .0)) (spi-rest-output (d .spi) (levelsIn l) n (b .1))
 
 pub rest-requests : (d : Device) (l n : ℕ) → isAtRest d l ≡ true → requestsOf (heldOf d l n) ≡ requestsOf d
 unfolding isAtRest
 rest-requests d l n h =
     let b = both (serialRests (d .usart) (rxdIn l)) (spiRests (d .spi) (levelsIn l)) h in
     ap requestsOf (held-units n d l)
-    ∙ ap₂ (_+_) (serial-rest-requests (d .usart) (rxdIn l) n (b .0)) (ap spiRequests (spi-rest (d .spi) (levelsIn l) n (b .1)))
+    ∙ ap₂ (_+_) (serial-rest-requests (d .usart) (rxdIn l) n (b .0)) (spi-rest-requests (d .spi) (levelsIn l) n (b .1))

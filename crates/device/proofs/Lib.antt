@@ -5,3 +5,4 @@ pub mod SerialLaws
 pub mod ValidLaws
 pub mod RunLaws
 pub mod LoopLaws
+pub mod HoldingLaws

@@ -76,7 +76,7 @@ impl Device {
     }
 
     // The output byte, with the level byte of this clock: only SS is looked at.
-    fn output(self, level: u8) -> u8
+    pub(crate) fn output(self, level: u8) -> u8
         ensures { λ r. ⌜ r ≡ outputOf self level ⌝ }
     {
         self.usart.output() + self.spi.output(level / 16 % 2 == 1)
