@@ -5,7 +5,7 @@ use mathlib.Core.Bool.{Bool, true, false}
 use mathlib.Core.List.{List, [], _∷_, _++_, append-assoc, append-nil}
 use mathlib.Core.Path.{_≡_, refl, sym, ap, ap₂, _∙_}
 use native.Mathlib.Omega.{arith}
-use lib.Dec.{eqb, ltb}
+use lib.Dec.{eqb}
 use lib.ListN.{length, take, drop}
 use lib.Seq.{take-append-le, drop-append-le}
 use borrow.Author.Tests.{eq-eqb, ne-eqb, lt-ltb}
@@ -30,6 +30,10 @@ module _ (m : Mode) (r : Shifter) (k : ℕ) (i : Bool) where
   shown-before o os xs ho hs =
       split (isSampling (m .cpha) k)
       (λ e. rw e (ap₂ (λ (b : Bool) (z : List Bool). b ∷ z) (ho e ∙ out-kept e) hs)) (λ e. rw e hs)
+
+  shift-kept : isSampling (m .cpha) k ≡ false → edgeOf m r k i .shift ≡ r .shift
+  unfolding edgeOf
+  shift-kept h = rw h (pick-ind (λ (x : Shifter). x .shift ≡ r .shift) (isPutting (m .cpha) k) _ _ (λ _. refl) (λ _. refl))
 
   pub edge-lt : r .shift < 256 → edgeOf m r k i .shift < 256
   unfolding edgeOf
@@ -67,7 +71,7 @@ module _ (m : Mode) (r : Shifter) (k : ℕ) (a b : Bool) where
         presented = λ _ q. clash c q;
       })
       (λ c. record {
-        shift = split (ltb (k + 1 + 1) 16) (λ z. rw (c, odd1, even1, even0, z)) (λ z. rw (c, odd1, even1, even0, z));
+        shift = shift-kept m (edgeOf m r (k + 1) a) (k + 1 + 1) b (rw (c, even1)) ∙ rw (c, odd1);
         shown = λ is. rw (c, odd1, even1, p c);
         sampled = λ is. rw (c, odd1, even1);
         presented = λ l q. rw (c, odd1, even1, even0, lt-ltb (k + 1 + 1) 16 l);

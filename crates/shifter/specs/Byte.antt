@@ -1,4 +1,4 @@
--- A whole byte: 16 edges, what is sampled at them and what is shown.
+-- Statements and their means, not rules: a whole byte of 16 edges, what is sampled at them and what is shown.
 use Prim.Native.Nat.{ℕ, zero, suc, _+_, _<_}
 use mathlib.Core.Bool.{Bool, false}
 use mathlib.Core.List.{List, [], _∷_}

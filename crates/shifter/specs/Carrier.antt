@@ -1,5 +1,5 @@
--- Whoever carries a byte over its 16 edges, by whatever clocks they come: an SPI master or slave, and a serial unit
--- that is an SPI master.
+-- Statements and their means, not rules: whoever carries a byte over its 16 edges, by whatever clocks they come. An SPI
+-- master or slave does, and a serial unit that is an SPI master.
 use Prim.Native.Nat.{ℕ, zero, suc, _+_, _-_, _<_}
 use mathlib.Core.Bool.{Bool, true, false}
 use mathlib.Core.List.{List, [], _∷_}

@@ -96,8 +96,8 @@ counts-held (suc k) s l m h =
 pub waits-within : (s : Spi) (ss : Bool) {k : ℕ} → k ≡ waitsFor s ss → 0 < k → (staysMaster (s .control) ss ≡ true) × (k < s .transfer .left .0)
 unfolding waitsFor
 waits-within s ss {k} e p =
-    split (staysMaster (s .control) ss) (λ m. let q : k ≡ s .transfer .left .0 - 1 = rw m at e in (m, omega arith))
-    (λ m. let q : k ≡ 0 = rw m at e in absurd (omega arith))
+    split (staysMaster (s .control) ss) (λ m. (m, omega (arith, rw m at e)))
+    (λ m. absurd (omega (arith, rw m at e)))
 
 -- what `passed` makes of it
 module _ (s : Spi) (l : Levels) {n : ℕ} {t : Spi} where

@@ -1,4 +1,5 @@
--- Lists of clocks and register accesses on the SPI.
+-- Means of the statements, not rules: lists of clocks and register accesses on the SPI, the edges among them, and what
+-- leaves a byte under way alone.
 use Prim.Native.Nat.{ℕ}
 use mathlib.Core.Bool.{Bool, true, false, not}
 use mathlib.Core.List.{List}

@@ -1,4 +1,4 @@
--- A whole byte, of master and slave alike, and SPIF.
+-- Statements, not rules: a whole byte, of master and slave alike, and SPIF.
 use Prim.Native.Nat.{ℕ, _<_}
 use mathlib.Core.Bool.{true, false}
 use mathlib.Core.List.{List, _∷_, _++_}

@@ -1,4 +1,4 @@
--- One level of each pin held for many clocks, and the unit at rest, which such clocks leave as it is.
+-- Means, not rules: one level of each pin held for many clocks, and the unit at rest, which such clocks leave as it is.
 use Prim.Native.Nat.{ℕ, _-_, _≤_}
 use mathlib.Core.Bool.{Bool, true, false, not}
 use mathlib.Core.Path.{_≡_}

@@ -1,4 +1,4 @@
--- A master and a slave of this model on one wire, each clocked by its own crystal.
+-- Statements and their means, not rules: a master and a slave of this model on one wire, each with its own crystal.
 use Prim.Native.Nat.{ℕ, zero, suc, _<_}
 use mathlib.Core.Bool.{Bool, true, false, not}
 use mathlib.Core.List.{List, [], _∷_}
