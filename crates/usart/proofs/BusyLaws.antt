@@ -33,7 +33,7 @@ same u = record { baud = refl; format = refl; shifter = refl }
 abbrev KeptBy : Usart → Written → Type 0
 KeptBy u w = Kept u (settled u w)
 
-either : (t : Bool) → pick t true true ≡ true
+pub either : (t : Bool) → pick t true true ≡ true
 either true = refl
 either false = refl
 

@@ -9,7 +9,7 @@ use native.Mathlib.Nat.{mul-le-mul-right, le-of-mul-le-mul-right, lt-of-mul-lt-m
 use native.Mathlib.Omega.{arith}
 use lib.Dec.{ltb}
 use borrow.Author.Tests.{lt-ltb, le-ltb}
-use Rattle.choice.specs.Pick.{pick, digit}
+use Rattle.choice.specs.Pick.{digit}
 use Rattle.choice.proofs.Picks.{pick-ind}
 use Rattle.frame.specs.Format.{samples, wordBits, lastBit}
 use Rattle.frame.specs.Word.{wordOf, frameBit}
@@ -27,7 +27,7 @@ use Rattle.usart.specs.declared.sender.ShiftRegister.the-variants.{Resti
 use Rattle.usart.specs.declared.sender.Sender.{Sender}
 use Rattle.usart.specs.declared.unit.Usart.{Usart}
 use Rattle.usart.proofs.ClockLaws.{clock-tick, clock-wait}
-use Rattle.usart.proofs.BusyLaws.{Kept, kept-write, kept-read, kept-vector}
+use Rattle.usart.proofs.BusyLaws.{either, Kept, kept-write, kept-read, kept-vector}
 
 abbrev sendingAt : ℕ → ℕ → ℕ → ShiftRegister
 sendingAt w b n = Sending (record { word = w; bit = b; sample = record { 0 = n } })
@@ -49,14 +49,10 @@ rests-not : {w b n : ℕ} → Resting ≡ sendingAt w b n → ⊥
 rests-not e = true≢false (ap isResting e)
 
 -- a shifter that sends is driven
-driven-by : (txen vacant : Bool) (n : ℕ) → pick (pick txen true (pick vacant true true)) n 0 ≡ n
-driven-by true vacant n = refl
-driven-by false true n = refl
-driven-by false false n = refl
-
-driven : (u : Usart) (w b n : ℕ) → u .sender .shifter ≡ sendingAt w b n → outputOf u ≡ digit (frameBit (wordBits (u .format)) w b) + 16
+driven : (u : Usart) (w b n : ℕ) → u .sender .shifter ≡ sendingAt w b n
+    → outputOf u ≡ digit (frameBit (wordBits (u .format)) w b) + 16
 unfolding outputOf isDriven
-driven u w b n e = rw e (driven-by (u .control .txen) (isVacant (u .sender .buffer)) (digit (frameBit (wordBits (u .format)) w b) + 16))
+driven u w b n e = rw (e, either (isVacant (u .sender .buffer)), either (u .control .txen))
 
 -- a clock, by the baud counter before it: k is in the counter after it, and x in the shifter
 record Clocked (u v : Usart) (k : ℕ) (x : ShiftRegister) : Type 0 where

@@ -1,5 +1,5 @@
--- One level of RxD held for many clocks, and the unit at rest, which such clocks leave as it is but for the baud
--- counter.
+-- One level of RxD held for many clocks: `heldOf`, as many single ones. All else here is a means, no rule: the parts of
+-- the unit after many clocks or ticks, and the unit at rest, which they leave as it is but for the baud counter.
 use Prim.Native.Nat.{ℕ, _≤_}
 use mathlib.Core.Bool.{Bool, true, false, not}
 use mathlib.Core.Path.{_≡_}
@@ -54,7 +54,7 @@ receiverRests rxen r rxd = pick rxen (samplerRests (r .sampler) rxd) true
 unfoldable pub isAtRest : Usart → Bool → Bool
 isAtRest u rxd = pick (senderRests (u .sender)) (receiverRests (u .control .rxen) (u .receiver) rxd) false
 
--- a means, no rule: k of n steps have been taken from x, at least one, and lead to y
+-- k of n steps have been taken from x, at least one, and lead to y
 pub record PassedOn {A : Type 0} (step : A → A) (x : A) (n k : ℕ) (y : A) : Type 0 where
   pub some : 1 ≤ k
   pub few : k ≤ n
