@@ -35,7 +35,7 @@ use Rattle.record.specs.declared.codec.Decoded.{Decoded}
 use Rattle.record.specs.declared.codec.Decoded.the-variants.{Accepted}
 use Rattle.record.proofs.Round.{decode-length}
 use Rattle.warpmagpie.specs.Calls.{requestsValueOn}
-use Rattle.history.specs.Call.{Call, reset, write, read, vector, pass, effect, recordAfter, finalRecord, along, Passable, usartOf}
+use Rattle.history.specs.Call.{Call, reset, write, read, vector, pass, effect, recordAfter, finalRecord, along, Bytes, usartOf}
 use Rattle.history.specs.Serial.{Serial as Part, event, resets, serialPart, serialParts, Answer, number, value, txd, serialAnswer, requestBits, Alike, Agree}
 use Rattle.history.proofs.StepLaws.{nextDevice, reset-done, write-on, read-on, vector-on, induct}
 use Rattle.history.proofs.ViewLaws.{usart-is, txd-of}
@@ -119,7 +119,7 @@ part-is : (s : List ℕ) (d : Device) → decodeOf s ≡ Accepted d → (c : Cal
 part-is s d h c e =
     usart-is (recordAfter s c) (nextDevice s d c) e ∙ part-of s d c ∙ ap (λ (u : Usart). lastOf u (serialPart s c)) (sym (usart-is s d h))
 
-answers-view : (s : List ℕ) (d : Device) (cs : List Call) → decodeOf s ≡ Accepted d → Passable cs → (j : ℕ)
+answers-view : (s : List ℕ) (d : Device) (cs : List Call) → decodeOf s ≡ Accepted d → Bytes cs → (j : ℕ)
     → along (λ j. serialAnswer) j s cs ≡ answersAt (usartOf s) (along (λ j. serialPart) j s cs)
 answers-view =
     induct (λ s cs. (j : ℕ) → along (λ j. serialAnswer) j s cs ≡ answersAt (usartOf s) (along (λ j. serialPart) j s cs))
@@ -129,7 +129,7 @@ answers-view =
     ap₂ (_++_) (answer-by s d h c ∙ ap (λ (u : Usart). answersAt u (serialPart s c)) (sym (usart-is s d h))) (k _ ∙ ap (λ (u : Usart). answersAt u rest) (part-is s d h c e))
     ∙ sym (answers-append (usartOf s) (serialPart s c) rest))
 
-final-parts : (s : List ℕ) (d : Device) (cs : List Call) → decodeOf s ≡ Accepted d → Passable cs → (j : ℕ)
+final-parts : (s : List ℕ) (d : Device) (cs : List Call) → decodeOf s ≡ Accepted d → Bytes cs → (j : ℕ)
     → usartOf (finalRecord s cs) ≡ lastOf (usartOf s) (along (λ j. serialPart) j s cs)
 final-parts =
     induct (λ s cs. (j : ℕ) → usartOf (finalRecord s cs) ≡ lastOf (usartOf s) (along (λ j. serialPart) j s cs))
@@ -143,7 +143,7 @@ bits-of : (s : List ℕ) (d : Device) → decodeOf s ≡ Accepted d → requestB
 unfolding requestsValueOn
 bits-of s d h = ap (λ (x : Decoded). requestsValueOn x % 8) h ∙ requests-serial d ∙ sym (ap serialRequests (usart-is s d h))
 
-final-bits : (s : List ℕ) (d : Device) (cs : List Call) → decodeOf s ≡ Accepted d → Passable cs
+final-bits : (s : List ℕ) (d : Device) (cs : List Call) → decodeOf s ≡ Accepted d → Bytes cs
     → requestBits (finalRecord s cs) ≡ serialRequests (usartOf (finalRecord s cs))
 final-bits = induct (λ s cs. requestBits (finalRecord s cs) ≡ serialRequests (usartOf (finalRecord s cs))) bits-of (λ s d h c cs e k. k)
 
@@ -151,18 +151,18 @@ pub independent : (d e : Device) (s t : List ℕ) (cs ds : List Call) → Alike 
 independent d e s t cs ds a =
     let one : usartOf s ≡ usartOf t = usart-is s d (a .first) ∙ a .one ∙ sym (usart-is t e (a .second)) in
     let final : usartOf (finalRecord s cs) ≡ usartOf (finalRecord t ds) =
-    final-parts s d cs (a .first) (a .passable) 0 ∙ ap₂ lastOf one (a .same) ∙ sym (final-parts t e ds (a .second) (a .passableToo) 0) in
+    final-parts s d cs (a .first) (a .bytes) 0 ∙ ap₂ lastOf one (a .same) ∙ sym (final-parts t e ds (a .second) (a .bytesToo) 0) in
     record {
       answers =
-          answers-view s d cs (a .first) (a .passable) 0 ∙ ap₂ answersAt one (a .same) ∙ sym (answers-view t e ds (a .second) (a .passableToo) 0);
+          answers-view s d cs (a .first) (a .bytes) 0 ∙ ap₂ answersAt one (a .same) ∙ sym (answers-view t e ds (a .second) (a .bytesToo) 0);
       requests =
-          final-bits s d cs (a .first) (a .passable) ∙ ap serialRequests final ∙ sym (final-bits t e ds (a .second) (a .passableToo));
+          final-bits s d cs (a .first) (a .bytes) ∙ ap serialRequests final ∙ sym (final-bits t e ds (a .second) (a .bytesToo));
       final = final;
     }
 
-passable-first : (cs ds : List Call) → Passable (cs ++ ds) → Passable cs
-passable-first [] ds p = tt
-passable-first (c ∷ cs) ds p = (p .0, passable-first cs ds (p .1))
+bytes-first : (cs ds : List Call) → Bytes (cs ++ ds) → Bytes cs
+bytes-first [] ds p = tt
+bytes-first (c ∷ cs) ds p = (p .0, bytes-first cs ds (p .1))
 
 -- .. and at every place inside: wherever the two stand after equal serial parts, with calls still to come, they agree so
 -- far, and so do reports at that place
@@ -173,7 +173,7 @@ independent-inside d e s t cs cs′ ds ds′ a same =
       first = a .first;
       second = a .second;
       one = a .one;
-      passable = passable-first cs cs′ (a .passable);
-      passableToo = passable-first ds ds′ (a .passableToo);
+      bytes = bytes-first cs cs′ (a .bytes);
+      bytesToo = bytes-first ds ds′ (a .bytesToo);
       same = same;
     })

@@ -12,19 +12,19 @@ use Rattle.record.specs.Codec.{decodeOf}
 use Rattle.record.specs.declared.codec.Decoded.the-variants.{Accepted}
 use Rattle.record.proofs.Round.{decode-record, decode-valid}
 use Rattle.warpmagpie.specs.Calls.{kept, recordAfterReset}
-use Rattle.history.specs.Call.{Call, finalRecord, Passable}
+use Rattle.history.specs.Call.{Call, finalRecord, Bytes}
 use Rattle.history.proofs.StepLaws.{reset-done, induct}
 
 -- the record is that of a valid device
 abbrev pub HasDevice : List ℕ → Type 0
 HasDevice s = (d : Device) × ((decodeOf s ≡ Accepted d) × Valid d)
 
-pub keeps-device : (s : List ℕ) (d : Device) (cs : List Call) → decodeOf s ≡ Accepted d → Passable cs → HasDevice (finalRecord s cs)
+pub keeps-device : (s : List ℕ) (d : Device) (cs : List Call) → decodeOf s ≡ Accepted d → Bytes cs → HasDevice (finalRecord s cs)
 keeps-device =
     induct (λ s cs. HasDevice (finalRecord s cs)) (λ s d h. (d, (h, decode-valid s d h))) (λ s d h c cs e k. k)
 
 pub reset-record : (s : List ℕ) → length s ≡ 64 → decodeOf (recordAfterReset s) ≡ Accepted resetDevice
 reset-record s e = ap (λ (w : Written). decodeOf (kept s w)) (reset-done s e) ∙ decode-record resetDevice valid-reset
 
-pub reached : (s : List ℕ) (cs : List Call) → length s ≡ 64 → Passable cs → HasDevice (finalRecord (recordAfterReset s) cs)
+pub reached : (s : List ℕ) (cs : List Call) → length s ≡ 64 → Bytes cs → HasDevice (finalRecord (recordAfterReset s) cs)
 reached s cs e p = keeps-device (recordAfterReset s) resetDevice cs (reset-record s e) p

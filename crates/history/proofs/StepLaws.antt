@@ -24,7 +24,7 @@ use Rattle.record.specs.declared.codec.Decoded.{Decoded}
 use Rattle.record.specs.declared.codec.Decoded.the-variants.{Accepted}
 use Rattle.record.proofs.Round.{decode-record, decode-valid, decode-length}
 use Rattle.warpmagpie.specs.Calls.{kept, keptByRead, resetOn, writeOn, readOn, vectorOn, runOn, outputsOn}
-use Rattle.history.specs.Call.{Passing, run, query, Call, reset, write, read, vector, pass, Effect, still, passed, effect, recordAfter, PassableCall, Passable}
+use Rattle.history.specs.Call.{Passing, run, query, Call, reset, write, read, vector, pass, Effect, still, passed, effect, recordAfter, ByteCall, Bytes}
 
 -- a call that comes to w leaves the record of the device that w leaves
 kept-is : (s : List ℕ) (d : Device) (w : Written) → decodeOf s ≡ Accepted d → Valid (settled d w) → decodeOf (kept s w) ≡ Accepted (settled d w)
@@ -94,7 +94,7 @@ module _ (s : List ℕ) (d : Device) (h : decodeOf s ≡ Accepted d) where
   passes (query q) = none-passed (q s)
 
   -- every call leaves a record of the next device
-  pub step : (c : Call) → PassableCall c → decodeOf (recordAfter s c) ≡ Accepted (nextDevice s d c)
+  pub step : (c : Call) → ByteCall c → decodeOf (recordAfter s c) ≡ Accepted (nextDevice s d c)
   step reset p = ap (λ (w : Written). decodeOf (kept s w)) (reset-done s (decode-length s d h)) ∙ decode-record resetDevice valid-reset
   step (write a v) p = ap (λ (w : Written). decodeOf (kept s w)) (write-on a v) ∙ kept-is s d (writeOf d a v) h (valid-write d a v p valid)
   step (read a) p = ap (λ (g : Reading). decodeOf (keptByRead s g)) (read-on a) ∙ kept-by-read s d (readOf d a) h (valid-read d a valid)
@@ -105,7 +105,7 @@ module _ (s : List ℕ) (d : Device) (h : decodeOf s ≡ Accepted d) where
 pub induct : (P : List ℕ → List Call → Type 0)
     → ((s : List ℕ) (d : Device) → decodeOf s ≡ Accepted d → P s [])
     → ((s : List ℕ) (d : Device) (h : decodeOf s ≡ Accepted d) (c : Call) (cs : List Call) → decodeOf (recordAfter s c) ≡ Accepted (nextDevice s d c) → P (recordAfter s c) cs → P s (c ∷ cs))
-    → (s : List ℕ) (d : Device) (cs : List Call) → decodeOf s ≡ Accepted d → Passable cs → P s cs
+    → (s : List ℕ) (d : Device) (cs : List Call) → decodeOf s ≡ Accepted d → Bytes cs → P s cs
 induct P nil cons s d [] h p = nil s d h
 induct P nil cons s d (c ∷ cs) h p =
     let e = step s d h c (p .0) in cons s d h c cs e (induct P nil cons (recordAfter s c) (nextDevice s d c) cs e (p .1))

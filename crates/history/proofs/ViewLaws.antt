@@ -19,7 +19,7 @@ use Rattle.device.proofs.SerialLaws.{write-serial, read-serial, vector-serial, 
 use Rattle.record.specs.Codec.{decodeOf}
 use Rattle.record.specs.declared.codec.Decoded.{Decoded}
 use Rattle.record.specs.declared.codec.Decoded.the-variants.{Accepted}
-use Rattle.history.specs.Call.{Call, reset, write, read, vector, pass, effect, recordAfter, finalRecord, along, Throughout, Passable, deviceIn, usartOf, OnlyDataCall, OnlyData}
+use Rattle.history.specs.Call.{Call, reset, write, read, vector, pass, effect, recordAfter, finalRecord, along, Throughout, Bytes, deviceIn, usartOf, OnlyDataCall, OnlyData}
 use Rattle.history.proofs.StepLaws.{passes, nextDevice, induct}
 
 -- the events of a call; a reset is none
@@ -93,7 +93,7 @@ module _ (s : List ℕ) (d : Device) (h : decodeOf s ≡ Accepted d) where
     txd = txd-of c ∙ ap (λ (u : Usart). outputsAt u (eventsOf s c)) (sym (usart-is s d h));
   }
 
-pub all-act : (s : List ℕ) (d : Device) (cs : List Call) → decodeOf s ≡ Accepted d → Passable cs → OnlyData s cs → Throughout Acts s cs
+pub all-act : (s : List ℕ) (d : Device) (cs : List Call) → decodeOf s ≡ Accepted d → Bytes cs → OnlyData s cs → Throughout Acts s cs
 all-act = induct (λ s cs. OnlyData s cs → Throughout Acts s cs) (λ s d h o. tt) (λ s d h c cs e k o. (acts s d h c (o .0) e, k (o .1)))
 
 -- what is gathered along the calls, if of each call it is the unit's own of its events, is the unit's own of the view

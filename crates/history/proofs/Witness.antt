@@ -7,7 +7,6 @@ use mathlib.Core.List.{List, [], _∷_}
 use mathlib.Core.Path.{_≡_, refl}
 use lib.Dec.{lit≤, lit<}
 use Rattle.choice.specs.Pick.{pick, digit}
-use Rattle.choice.proofs.Picks.{clash}
 use Rattle.frame.specs.Parity.{sumOfBits}
 use Rattle.frame.specs.Word.{frameBit, parityError}
 use Rattle.frame.specs.declared.format.Size.the-variants.{Five}
@@ -33,23 +32,20 @@ use Rattle.spi.specs.Control.{divisorNumber}
 use Rattle.spi.specs.Register.{writeSpcr, startedOf, loadedOf, vectorOf as spiVectorOf}
 use Rattle.spi.specs.Transfer.{isUnderWay, edgedOf}
 use Rattle.spi.specs.Unit.{differs, isRequested}
-use Rattle.spi.proofs.ValidLaws.{valid-reset}
 use Rattle.shifter.specs.Edge.{isSampling, isPutting, edgeOf}
 use Rattle.shifter.specs.Order.{outBit, shiftedIn}
 use Rattle.device.specs.Address.{placeOf}
 use Rattle.device.specs.Register.{vectorOf}
 use Rattle.device.specs.Run.{ranOf, areLevels}
 use Rattle.device.specs.Serial.{vectorsAt}
-use Rattle.device.specs.Valid.{Valid}
 use Rattle.device.specs.declared.unit.Device.{Device}
 use Rattle.record.specs.Codec.{eqList, recordOf, decodeOf}
 use Rattle.record.specs.Codes.{flagOf}
 use Rattle.record.specs.Parts.{bufferOf, shifterOf, samplerOf as samplerIn, placesOf}
 use Rattle.record.specs.Ranges.{isUndecided, disabledFits, enabledFits, dueFits, inRange}
 use Rattle.record.specs.declared.codec.Decoded.the-variants.{Accepted}
-use Rattle.record.proofs.Round.{decode-record}
 use Rattle.warpmagpie.specs.Calls.{writeOn, readOn, vectorOn, runOn}
-use Rattle.history.specs.Call.{run, Call, write, read, vector, pass, report, finalRecord, Passable, usartOf, OnlyData, rxdOf}
+use Rattle.history.specs.Call.{run, Call, write, read, vector, pass, report, finalRecord, Bytes, usartOf, OnlyData, rxdOf}
 use Rattle.history.specs.Receiving.{Hears, readsOf, entriesOf}
 use Rattle.history.specs.Sending.{MaySend, takenOf, txdOf}
 use Rattle.history.specs.Serial.{serialParts, Alike, Agree}
@@ -104,21 +100,9 @@ calls u2x =
     ∷ write 0xC2 0x16 ∷ write 0xC3 1 ∷ read 0x99 ∷ vector 0 ∷ vector 1 ∷ vector 7 ∷ pass (run (1 ∷ []) []) ∷ pass (run (33 ∷ []) (0 ∷ [])) ∷ pass (run [] []) ∷ report ∷ write 0xC6 85 ∷ read 0xC0
     ∷ read 0xC6 ∷ runFor u2x n m ∷ report ∷ read 0xC6 ∷ read 0x4E ∷ runFor u2x (n + m) m ∷ report ∷ []
 
-valid : (u2x : Bool) → Valid (start u2x)
-unfolding start
-valid u2x = record {
-  usart = record {
-    baud = record { ubrr = lit< tt; left = lit< tt };
-    sender = record { buffer = tt; shifter = tt };
-    receiver = record { sampler = tt; places = tt };
-    disabled = clash refl;
-  };
-  spi = valid-reset;
-}
-
-passable : (u2x : Bool) → Passable (calls u2x)
+bytes : (u2x : Bool) → Bytes (calls u2x)
 unfolding calls
-passable u2x =
+bytes u2x =
     (tt, (lit< tt, (tt, (lit< tt, (lit< tt, (tt, (lit< tt, (lit< tt, (tt, (lit< tt, (lit< tt, (lit< tt, (lit< tt, (tt, (tt, (tt, (tt, (tt, (tt, (tt, (tt, (lit< tt, (tt, (tt, (tt, (tt, (tt, (tt, (tt, (tt, tt))))))))))))))))))))))))))))))
 
 -- the serial side of the history alone, with no SPI traffic and no report, its clocks split into other runs
@@ -129,13 +113,14 @@ quiet u2x =
     runFor u2x 0 7 ∷ runFor u2x 7 (n - 7) ∷ write 0xC4 7 ∷ write 0xC2 0xC0 ∷ write 0xC2 0x16 ∷ vector 0 ∷ write 0xC6 85 ∷ read 0xC0 ∷ read 0xC6 ∷ runFor u2x n 5
     ∷ runFor u2x (n + 5) (m - 5) ∷ read 0xC6 ∷ runFor u2x (n + m) m ∷ []
 
-quiet-passable : (u2x : Bool) → Passable (quiet u2x)
+quiet-bytes : (u2x : Bool) → Bytes (quiet u2x)
 unfolding quiet
-quiet-passable u2x = (tt, (tt, (lit< tt, (lit< tt, (lit< tt, (tt, (lit< tt, (tt, (tt, (tt, (tt, (tt, (tt, tt)))))))))))))
+quiet-bytes u2x = (tt, (tt, (lit< tt, (lit< tt, (lit< tt, (tt, (lit< tt, (tt, (tt, (tt, (tt, (tt, (tt, tt)))))))))))))
 
--- what is found by computing on the record: the calls' tests hold, the clocks show the line, which ends within them, and
--- the two histories have the same serial parts
+-- what is found by computing on the record: it is the device's, the calls' tests hold, the clocks show the line, which
+-- ends within them, and the two histories have the same serial parts
 record Found (u2x : Bool) (s : List ℕ) : Type 0 where
+  valid : decodeOf s ≡ Accepted (start u2x)
   only : throughout only s (calls u2x) ≡ true
   roomy : throughout roomy s (calls u2x) ≡ true
   line : LineOn (813 * scale u2x) 100 (frames u2x) (start u2x .usart .format) 0 (rxdOf s (calls u2x))
@@ -144,6 +129,7 @@ record Found (u2x : Bool) (s : List ℕ) : Type 0 where
 found : (u2x : Bool) → Found u2x (recordOf (start u2x))
 unfolding throughout only roomy start frames level line blank calls quiet shown free room bool-eqb lineLevel frameBit sumOfBits leftOf steppedOf idleOf castOf nextBitOf shiftedOf decidedOf votedOf sampledOf samplerOf listenedOf isBusy clockOf sizeOf parityOf formattedOf writeC isReservedC sizedC timedOf transmittedOf serialVectorOf parityError placeOf ranOf areLevels vectorOf vectorsAt spiStepped masterOf completedFlags divisorNumber writeSpcr startedOf loadedOf spiVectorOf isUnderWay edgedOf differs isRequested isSampling isPutting edgeOf outBit shiftedIn decodeOf recordOf eqList inRange isUndecided disabledFits enabledFits dueFits flagOf bufferOf shifterOf samplerIn placesOf writeOn readOn vectorOn runOn
 found true = record {
+  valid = refl;
   only = refl;
   roomy = refl;
   line = record {
@@ -158,6 +144,7 @@ found true = record {
   same = refl;
 }
 found false = record {
+  valid = refl;
   only = refl;
   roomy = refl;
   line = record {
@@ -172,10 +159,6 @@ found false = record {
   same = refl;
 }
 
--- its record is the device's
-accepted : (u2x : Bool) → decodeOf (recordOf (start u2x)) ≡ Accepted (start u2x)
-accepted u2x = decode-record (start u2x) (valid u2x)
-
 onlyData : (u2x : Bool) → OnlyData (recordOf (start u2x)) (calls u2x)
 onlyData u2x = only-all (recordOf (start u2x)) (calls u2x) (found u2x .only)
 
@@ -186,9 +169,9 @@ witness u2x =
     let s = recordOf (start u2x) in
     let cs = calls u2x in
     record {
-      valid = accepted u2x;
+      valid = found u2x .valid;
       ready = record { enabled = refl; idle = refl; empty = refl; noLoss = refl; counter = lit≤ tt };
-      passable = passable u2x;
+      bytes = bytes u2x;
       onlyData = onlyData u2x;
       line = found u2x .line;
       free = roomy-all s cs (found u2x .roomy);
@@ -204,7 +187,7 @@ witnessed u2x = receives (813 * scale u2x) 100 (frames u2x) (start u2x) (recordO
 pub sender-witness : (u2x : Bool) → MaySend (start u2x) (recordOf (start u2x)) (calls u2x)
 unfolding start
 sender-witness u2x =
-    record { valid = accepted u2x; atRest = record { enabled = refl; resting = refl }; passable = passable u2x; onlyData = onlyData u2x }
+    record { valid = found u2x .valid; atRest = record { enabled = refl; resting = refl }; bytes = bytes u2x; onlyData = onlyData u2x }
 
 pub sent : (u2x : Bool)
     → Sends (start u2x .usart) (takenOf (recordOf (start u2x)) (calls u2x)) (txdOf (recordOf (start u2x)) (calls u2x))
@@ -214,11 +197,11 @@ sent u2x = sends (start u2x) (recordOf (start u2x)) (calls u2x) (sender-witness 
 -- the premises of SPI independence hold of the two, and so its conclusion
 pub alike : (u2x : Bool) → Alike (start u2x) (start u2x) (recordOf (start u2x)) (recordOf (start u2x)) (calls u2x) (quiet u2x)
 alike u2x = record {
-  first = accepted u2x;
-  second = accepted u2x;
+  first = found u2x .valid;
+  second = found u2x .valid;
   one = refl;
-  passable = passable u2x;
-  passableToo = quiet-passable u2x;
+  bytes = bytes u2x;
+  bytesToo = quiet-bytes u2x;
   same = found u2x .same;
 }
 

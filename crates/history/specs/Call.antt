@@ -65,11 +65,12 @@ abbrev pub finalRecord : List ℕ → List Call → List ℕ
 finalRecord s [] = s
 finalRecord s (c ∷ cs) = finalRecord (recordAfter s c) cs
 
--- what each call of a list gives, from the clock and on the record that it finds, one after another
+-- what each call of a list gives on the record that it finds, one after another: told how many clocks have passed
 abbrev pub along : {A : Type 0} → (ℕ → List ℕ → Call → List A) → ℕ → List ℕ → List Call → List A
 along f j s [] = []
 along f j s (c ∷ cs) = f j s c ++ along f (j + length (effect s c .levels)) (recordAfter s c) cs
 
+-- .. or not told
 abbrev pub gathered : {A : Type 0} → (List ℕ → Call → List A) → List ℕ → List Call → List A
 gathered f s cs = along (λ j. f) 0 s cs
 
@@ -78,17 +79,17 @@ abbrev pub Throughout : (List ℕ → Call → Type 0) → List ℕ → List Cal
 Throughout P s [] = Unit {0}
 Throughout P s (c ∷ cs) = P s c × Throughout P (recordAfter s c) cs
 
--- the value of a write is a byte, as C passes it; every other argument may be anything
-abbrev pub PassableCall : Call → Type 0
-PassableCall reset = Unit {0}
-PassableCall (write a v) = v < 256
-PassableCall (read a) = Unit {0}
-PassableCall (vector n) = Unit {0}
-PassableCall (pass p) = Unit {0}
+-- the value of a write is a byte, as C gives it; every other argument may be anything
+abbrev pub ByteCall : Call → Type 0
+ByteCall reset = Unit {0}
+ByteCall (write a v) = v < 256
+ByteCall (read a) = Unit {0}
+ByteCall (vector n) = Unit {0}
+ByteCall (pass p) = Unit {0}
 
-abbrev pub Passable : List Call → Type 0
-Passable [] = Unit {0}
-Passable (c ∷ cs) = PassableCall c × Passable cs
+abbrev pub Bytes : List Call → Type 0
+Bytes [] = Unit {0}
+Bytes (c ∷ cs) = ByteCall c × Bytes cs
 
 -- the device of a record. One that is refused has none; the statements do not look at it then
 abbrev pub deviceIn : Decoded → Device

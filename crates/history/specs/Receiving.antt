@@ -13,7 +13,7 @@ use Rattle.device.specs.declared.unit.Device.{Device}
 use Rattle.record.specs.Codec.{decodeOf}
 use Rattle.record.specs.declared.codec.Decoded.the-variants.{Accepted}
 use Rattle.warpmagpie.specs.Calls.{readValue}
-use Rattle.history.specs.Call.{Call, reset, write, read, vector, pass, effect, along, gathered, Throughout, Passable, usartOf, OnlyData, rxdOf}
+use Rattle.history.specs.Call.{Call, reset, write, read, vector, pass, effect, along, gathered, Throughout, Bytes, usartOf, OnlyData, rxdOf}
 
 -- a place is free whenever a frame completes: at each clock that completes one, fewer than two are held
 abbrev pub Free : List ℕ → List Call → Type 0
@@ -24,7 +24,7 @@ Free s cs = Throughout (λ s c. FreeAt (usartOf s) (clocksOf (effect s c .levels
 pub record Hears (P Q : ℕ) (fs : List Sent) (d : Device) (s : List ℕ) (cs : List Call) : Type 0 where
   pub valid : decodeOf s ≡ Accepted d
   pub ready : Ready (d .usart)
-  pub passable : Passable cs
+  pub bytes : Bytes cs
   pub onlyData : OnlyData s cs
   pub line : LineOn P Q fs (d .usart .format) (d .usart .baud .ubrr) (rxdOf s cs)
   pub free : Free s cs

@@ -13,13 +13,13 @@ use Rattle.device.specs.declared.unit.Device.{Device}
 use Rattle.record.specs.Codec.{decodeOf}
 use Rattle.record.specs.declared.codec.Decoded.the-variants.{Accepted}
 use Rattle.warpmagpie.specs.Calls.{readValue}
-use Rattle.history.specs.Call.{Call, reset, write, read, vector, pass, effect, along, gathered, Passable, usartOf, OnlyData}
+use Rattle.history.specs.Call.{Call, reset, write, read, vector, pass, effect, along, gathered, Bytes, usartOf, OnlyData}
 
 -- enabled, nothing in shift at first; no serial register but UDR0 written, and no reset
 pub record MaySend (d : Device) (s : List ℕ) (cs : List Call) : Type 0 where
   pub valid : decodeOf s ≡ Accepted d
   pub atRest : AtRest (d .usart)
-  pub passable : Passable cs
+  pub bytes : Bytes cs
   pub onlyData : OnlyData s cs
 
 -- the data that a write to UDR0 gives the buffer: done with UDRE set, and with TXB8 as it then stands

@@ -14,7 +14,7 @@ use Rattle.device.specs.Serial.{isSerial, clocksOf, writesAt, readsAt, vectorsA
 use Rattle.warpmagpie.specs.Calls.{resetAnswer, writeAnswer, readAnswer, readValue, vectorAnswer, requestsValue}
 use Rattle.record.specs.Codec.{decodeOf}
 use Rattle.record.specs.declared.codec.Decoded.the-variants.{Accepted}
-use Rattle.history.specs.Call.{Call, reset, write, read, vector, pass, effect, finalRecord, gathered, Passable, usartOf}
+use Rattle.history.specs.Call.{Call, reset, write, read, vector, pass, effect, finalRecord, gathered, Bytes, usartOf}
 
 -- the serial calls as the serial unit has them (a serial register written or read, vector 0, and the clocks passed, each
 -- with its level of RxD), and the resets
@@ -54,13 +54,13 @@ abbrev pub requestBits : List ℕ → ℕ
 requestBits s = requestsValue s % 8
 
 -- two histories from one serial device, with the same serial calls and resets in order and the same clocks and RxD levels
--- between them, however split into runs; what else is in them, reports too, and whose SPI is in which state, is free
+-- between them, however split into runs; what else is in them, queries too, and whose SPI is in which state, is free
 pub record Alike (d e : Device) (s t : List ℕ) (cs ds : List Call) : Type 0 where
   pub first : decodeOf s ≡ Accepted d
   pub second : decodeOf t ≡ Accepted e
   pub one : d .usart ≡ e .usart
-  pub passable : Passable cs
-  pub passableToo : Passable ds
+  pub bytes : Bytes cs
+  pub bytesToo : Bytes ds
   pub same : serialParts s cs ≡ serialParts t ds
 
 -- they agree on all serial answers, TxD and, in a report after them, request bits 0 to 2, and end as one serial device
