@@ -21,7 +21,7 @@ use Rattle.usart.specs.Sampler.{idleOf, castOf, nextBitOf, shiftedOf, decidedOf
 use Rattle.usart.specs.Sender.{steppedOf}
 use Rattle.usart.specs.Settings.{sizeOf}
 use Rattle.usart.specs.Unit.{isBusy, clockOf as serialClock}
-use Rattle.usart.specs.Write.{formattedOf, clearedOf, writeA, isReservedC, writeC, transmittedOf}
+use Rattle.usart.specs.Write.{formattedOf, txcCleared, writeA, isReservedC, writeC, transmittedOf}
 use Rattle.usart.specs.declared.unit.Usart.{Usart}
 use Rattle.usart.proofs.Cases.{m8 as m8-unit}
 use Rattle.usart.proofs.OneBit.{bit-lasts}
@@ -78,7 +78,7 @@ m9 = (
 )
 
 m10 : M10
-unfolding overrun heard listening lineFrom fourFrames ranOf placeOf leftOf steppedOf listenedOf enabledOf isBusy serialClock formattedOf clearedOf writeA sizeOf frameBit lineLevel spiStepped sumOfBits idleOf castOf nextBitOf shiftedOf decidedOf votedOf sampledOf samplerOf parityError
+unfolding overrun heard listening lineFrom fourFrames ranOf placeOf leftOf steppedOf listenedOf enabledOf isBusy serialClock formattedOf txcCleared writeA sizeOf frameBit lineLevel spiStepped sumOfBits idleOf castOf nextBitOf shiftedOf decidedOf votedOf sampledOf samplerOf parityError
 m10 = refl
 
 pub marked : Each cases

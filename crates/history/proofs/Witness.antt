@@ -27,12 +27,14 @@ use Rattle.usart.specs.declared.sender.Buffer.the-variants.{Vacant}
 use Rattle.usart.specs.declared.sender.ShiftRegister.the-variants.{Resting}
 use Rattle.usart.proofs.ClosedLists.{bool-eqb, shown, shown-shows, room, free}
 use Rattle.spi.specs.Unit.{resetSpi}
-use Rattle.spi.specs.Clock.{masterOf, steppedOf as spiStepped, completedFlags}
-use Rattle.spi.specs.Control.{divisorNumber}
-use Rattle.spi.specs.Register.{writeSpcr, startedOf, loadedOf, vectorOf as spiVectorOf}
-use Rattle.spi.specs.Transfer.{isUnderWay, edgedOf}
-use Rattle.spi.specs.Unit.{differs, isRequested}
+use Rattle.spi.specs.Clock.{masterOf, steppedOf as spiStepped}
+use Rattle.spi.specs.Control.{divisorNumber, isModeFault}
+use Rattle.spi.specs.Means.{differs}
+use Rattle.spi.specs.Register.{writeSpcr, loadedOf, vectorOf as spiVectorOf}
+use Rattle.spi.specs.Transfer.{isUnderWay}
+use Rattle.spi.specs.Unit.{isRequested}
 use Rattle.shifter.specs.Edge.{isSampling, isPutting, edgeOf}
+use Rattle.shifter.specs.Exchange.{firstOut, nextEdge, edgedOf}
 use Rattle.shifter.specs.Order.{outBit, shiftedIn}
 use Rattle.device.specs.Address.{placeOf}
 use Rattle.device.specs.Register.{vectorOf}
@@ -127,7 +129,7 @@ record Found (u2x : Bool) (s : List ℕ) : Type 0 where
   same : serialParts s (calls u2x) ≡ serialParts s (quiet u2x)
 
 found : (u2x : Bool) → Found u2x (recordOf (start u2x))
-unfolding throughout only roomy start frames level line blank calls quiet shown free room bool-eqb lineLevel frameBit sumOfBits leftOf steppedOf idleOf castOf nextBitOf shiftedOf decidedOf votedOf sampledOf samplerOf listenedOf isBusy clockOf sizeOf parityOf formattedOf writeC isReservedC sizedC timedOf transmittedOf serialVectorOf parityError placeOf ranOf areLevels vectorOf vectorsAt spiStepped masterOf completedFlags divisorNumber writeSpcr startedOf loadedOf spiVectorOf isUnderWay edgedOf differs isRequested isSampling isPutting edgeOf outBit shiftedIn decodeOf recordOf eqList inRange isUndecided disabledFits enabledFits dueFits flagOf bufferOf shifterOf samplerIn placesOf writeOn readOn vectorOn runOn
+unfolding throughout only roomy start frames level line blank calls quiet shown free room bool-eqb lineLevel frameBit sumOfBits leftOf steppedOf idleOf castOf nextBitOf shiftedOf decidedOf votedOf sampledOf samplerOf listenedOf isBusy clockOf sizeOf parityOf formattedOf writeC isReservedC sizedC timedOf transmittedOf serialVectorOf parityError placeOf ranOf areLevels vectorOf vectorsAt spiStepped masterOf divisorNumber isModeFault writeSpcr loadedOf spiVectorOf isUnderWay firstOut nextEdge edgedOf differs isRequested isSampling isPutting edgeOf outBit shiftedIn decodeOf recordOf eqList inRange isUndecided disabledFits enabledFits dueFits flagOf bufferOf shifterOf samplerIn placesOf writeOn readOn vectorOn runOn
 found true = record {
   valid = refl;
   only = refl;

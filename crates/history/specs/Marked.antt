@@ -6,13 +6,13 @@ use mathlib.Core.Path.{_≡_}
 use Rattle.choice.specs.Bit.{bitAt}
 use Rattle.choice.specs.Pick.{digit}
 use Rattle.frame.specs.Format.{lastBit}
-use Rattle.usart.specs.Limit.{limit, Within}
 use Rattle.frame.specs.Parity.{parityIn}
 use Rattle.frame.specs.Vote.{majorityOf}
 use Rattle.frame.specs.declared.format.Format.{Format}
 use Rattle.frame.specs.declared.format.Parity.the-variants.{Even}
 use Rattle.frame.specs.declared.format.Size.the-variants.{Nine}
 use Rattle.usart.specs.Bit.{BitLasts}
+use Rattle.usart.specs.Limit.{limit, Within}
 use Rattle.usart.specs.Line.{Sent, lineLevel}
 use Rattle.usart.specs.Marked.{zeros}
 use Rattle.usart.specs.declared.unit.Usart.{Usart}
