@@ -90,23 +90,11 @@ impl Spi {
         }
     }
 
-    fn with_miso(self, miso: bool) -> Spi
+    fn with_miso(mut self, miso: bool) -> Spi
         ensures { λ r. ⌜ r ≡ withMiso self miso ⌝ }
     {
-        let c = self.control;
-        let t = self.transfer;
-        let f = self.flags;
-        let p = self.pins;
-        Spi {
-            control: c,
-            transfer: t,
-            flags: f,
-            pins: Pins {
-                mosi: p.mosi,
-                miso: miso,
-                sck: p.sck,
-            },
-        }
+        self.pins.miso = miso;
+        self
     }
 
     // With CPHA 0 and no edge seen the slave shows the first bit.
@@ -120,51 +108,29 @@ impl Spi {
         self
     }
 
-    fn slave_edge(self, mosi: bool) -> Spi
+    fn slave_edge(mut self, mosi: bool) -> Spi
         ensures { λ r. ⌜ r ≡ slaveEdge self mosi ⌝ }
     {
         let c = self.control;
-        let f = self.flags;
-        let p = self.pins;
-        let e = self.transfer.byte(p.miso).edged(c.mode(), mosi);
+        let e = self.transfer.byte(self.pins.miso).edged(c.mode(), mosi);
         match e {
             Edged::Onward(x) => {
                 let r = x.register;
-                let t = Transfer {
-                    shift: r.shift,
-                    received: self.transfer.received,
-                    edges: x.edges,
-                    left: Clocks(0),
-                };
-                Spi {
-                    control: c,
-                    transfer: t,
-                    flags: f,
-                    pins: Pins {
-                        mosi: p.mosi,
-                        miso: r.out,
-                        sck: p.sck,
-                    },
-                }
+                self.transfer.shift = r.shift;
+                self.transfer.edges = x.edges;
+                self.transfer.left.0 = 0;
+                self.pins.miso = r.out;
+                self
             }
             Edged::Complete(r) => {
-                let t = Transfer {
-                    shift: r.shift,
-                    received: r.shift,
-                    edges: 0,
-                    left: Clocks(0),
-                };
-                let g = f.raised();
-                Spi {
-                    control: c,
-                    transfer: t,
-                    flags: g,
-                    pins: Pins {
-                        mosi: p.mosi,
-                        miso: r.out,
-                        sck: p.sck,
-                    },
-                }
+                let f = self.flags.raised();
+                self.transfer.shift = r.shift;
+                self.transfer.received = r.shift;
+                self.transfer.edges = 0;
+                self.transfer.left.0 = 0;
+                self.flags = f;
+                self.pins.miso = r.out;
+                self
             }
         }
     }
@@ -185,18 +151,11 @@ impl Spi {
         s
     }
 
-    pub fn with_transfer(self, t: Transfer) -> Spi
+    pub fn with_transfer(mut self, t: Transfer) -> Spi
         ensures { λ r. ⌜ r ≡ withTransfer self t ⌝ }
     {
-        let c = self.control;
-        let f = self.flags;
-        let p = self.pins;
-        Spi {
-            control: c,
-            transfer: t,
-            flags: f,
-            pins: p,
-        }
+        self.transfer = t;
+        self
     }
 
     // A clock of the slave: SS high drops a partial byte.

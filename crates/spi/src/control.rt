@@ -52,14 +52,12 @@ impl Control {
     }
 
     // MSTR cleared.
-    pub fn slave(self) -> Control
+    pub fn slave(mut self) -> Control
         ensures { λ r. ⌜ r ≡ withoutMstr self ⌝ }
     {
-        Control {
-            spcr: self.spcr / 32 * 32 + self.spcr % 16,
-            spi2x: self.spi2x,
-            ddrb: self.ddrb,
-        }
+        let next = self.spcr / 32 * 32 + self.spcr % 16;
+        self.spcr = next;
+        self
     }
 
     // SS, bit 2 of DDRB, is an input.

@@ -11,7 +11,7 @@ use answer::Refusal;
 use choice::digit;
 ghost use mathlib.Core.Path.{_≡_};
 ghost use Rattle.spi.specs.Unit.{resetSpi};
-ghost use Rattle.spi.specs.Means.{withControl, withFlags, withMosi};
+ghost use Rattle.spi.specs.Means.{withFlags, withMosi};
 ghost use Rattle.spi.specs.Register.{setSpcr, writeSpcr, setSpi2x, writeSpsr, filled, startedOf, loadedOf, accessed, setDdrb, writeOf, spsr, readOf, vectorOf};
 
 pub enum Register {
@@ -53,42 +53,18 @@ impl Spi {
         }
     }
 
-    fn with_control(self, c: Control) -> Spi
-        ensures { λ r. ⌜ r ≡ withControl self c ⌝ }
-    {
-        let t = self.transfer;
-        let f = self.flags;
-        let p = self.pins;
-        Spi {
-            control: c,
-            transfer: t,
-            flags: f,
-            pins: p,
-        }
-    }
-
-    fn with_flags(self, f: Flags) -> Spi
+    fn with_flags(mut self, f: Flags) -> Spi
         ensures { λ r. ⌜ r ≡ withFlags self f ⌝ }
     {
-        let c = self.control;
-        let t = self.transfer;
-        let p = self.pins;
-        Spi {
-            control: c,
-            transfer: t,
-            flags: f,
-            pins: p,
-        }
+        self.flags = f;
+        self
     }
 
-    fn set_spcr(self, v: u8) -> Spi
+    fn set_spcr(mut self, v: u8) -> Spi
         ensures { λ r. ⌜ r ≡ setSpcr self v ⌝ }
     {
-        self.with_control(Control {
-            spcr: v,
-            spi2x: self.control.spi2x,
-            ddrb: self.control.ddrb,
-        })
+        self.control.spcr = v;
+        self
     }
 
     fn write_spcr(self, v: u8) -> Written
@@ -106,14 +82,11 @@ impl Spi {
         Written::Done(self.set_spcr(v))
     }
 
-    fn set_spi2x(self, b: bool) -> Spi
+    fn set_spi2x(mut self, b: bool) -> Spi
         ensures { λ r. ⌜ r ≡ setSpi2x self b ⌝ }
     {
-        self.with_control(Control {
-            spcr: self.control.spcr,
-            spi2x: b,
-            ddrb: self.control.ddrb,
-        })
+        self.control.spi2x = b;
+        self
     }
 
     fn write_spsr(self, v: u8) -> Written
@@ -141,23 +114,11 @@ impl Spi {
         })
     }
 
-    fn with_mosi(self, mosi: bool) -> Spi
+    fn with_mosi(mut self, mosi: bool) -> Spi
         ensures { λ r. ⌜ r ≡ withMosi self mosi ⌝ }
     {
-        let c = self.control;
-        let t = self.transfer;
-        let f = self.flags;
-        let p = self.pins;
-        Spi {
-            control: c,
-            transfer: t,
-            flags: f,
-            pins: Pins {
-                mosi: mosi,
-                miso: p.miso,
-                sck: p.sck,
-            },
-        }
+        self.pins.mosi = mosi;
+        self
     }
 
     // A master's transfer begins.
@@ -193,14 +154,11 @@ impl Spi {
         self.with_flags(self.flags.cleared())
     }
 
-    fn set_ddrb(self, v: u8) -> Spi
+    fn set_ddrb(mut self, v: u8) -> Spi
         ensures { λ r. ⌜ r ≡ setDdrb self v ⌝ }
     {
-        self.with_control(Control {
-            spcr: self.control.spcr,
-            spi2x: self.control.spi2x,
-            ddrb: v,
-        })
+        self.control.ddrb = v;
+        self
     }
 
     pub fn write(self, register: Register, v: u8) -> Written

@@ -1,6 +1,6 @@
 // What a step does to a unit, and what comes out.
-use crate::bench::Bench;
 use crate::side::exchanged;
+use crate::socket::Socket;
 use crate::step::byte_at;
 use crate::step::word_at;
 use spi::Levels;
@@ -10,19 +10,19 @@ use spi::Written;
 
 // The unit and its pins after a step, and the number that came out.
 pub struct Seen {
-    pub bench: Bench,
+    pub socket: Socket,
     pub came: u64,
 }
 
 // The answer that the rig sees; a refused access leaves the unit as it was.
-fn answered(b: Bench, w: Written) -> Seen {
+fn answered(b: Socket, w: Written) -> Seen {
     match w {
         Written::Done(s) => Seen {
-            bench: b.with_spi(s),
+            socket: b.with_spi(s),
             came: 0,
         },
         Written::Refused(r) => Seen {
-            bench: b,
+            socket: b,
             came: r.number() as u64,
         },
     }
@@ -44,20 +44,20 @@ fn write(s: Spi, n: u64) -> Written {
     s.write(register_of(n / 0x1000), byte_at(n / 0x10))
 }
 
-fn giving(b: Bench, came: u64) -> Seen {
+fn giving(b: Socket, came: u64) -> Seen {
     Seen {
-        bench: b,
+        socket: b,
         came: came,
     }
 }
 
-fn read(b: Bench, register: Register) -> Seen {
+fn read(b: Socket, register: Register) -> Seen {
     let r = b.spi.read(register);
     let s = r.spi;
     giving(b.with_spi(s), r.value as u64)
 }
 
-fn value(b: Bench, n: u64) -> Seen {
+fn value(b: Socket, n: u64) -> Seen {
     if n / 0x100 == 5 {
         return giving(b, b.spi.requests() as u64);
     }
@@ -71,7 +71,7 @@ fn chosen(this: bool, level: bool, other: bool) -> bool {
     if this { level } else { other }
 }
 
-fn pinned(b: Bench, n: u64) -> Bench {
+fn pinned(b: Socket, n: u64) -> Socket {
     let p = b.pins;
     let pin = n / 0x10;
     let level = n % 0x10 == 1;
@@ -83,7 +83,7 @@ fn pinned(b: Bench, n: u64) -> Bench {
     })
 }
 
-fn signal(b: Bench, n: u64) -> bool {
+fn signal(b: Socket, n: u64) -> bool {
     if n == 0 {
         return b.spif();
     }
@@ -93,7 +93,7 @@ fn signal(b: Bench, n: u64) -> bool {
 const LIMIT: u16 = 2000;
 
 // The clock that brings the signal to the level, but no more than LIMIT.
-fn clock_of(b: Bench, n: u64, level: bool) -> u16 {
+fn clock_of(b: Socket, n: u64, level: bool) -> u16 {
     let mut c = b;
     for clock in 0..LIMIT {
         if signal(c, n) == level {
@@ -105,10 +105,10 @@ fn clock_of(b: Bench, n: u64, level: bool) -> u16 {
 }
 
 // The byte that the other side got, and above it the clock that brought SPIF.
-fn exchange(b: Bench, n: u64) -> Seen {
+fn exchange(b: Socket, n: u64) -> Seen {
     let spcr = byte_at(n / 0x1_0000);
     let s = exchanged(b, spcr, byte_at(n / 0x1000_0000), byte_at(n / 0x100));
-    let c = s.bench;
+    let c = s.socket;
     let byte = s.byte(spcr) as u64;
     if c.spif() {
         return giving(c, c.quiet as u64 * 0x100 + byte);
@@ -116,7 +116,7 @@ fn exchange(b: Bench, n: u64) -> Seen {
     giving(c, byte)
 }
 
-pub(crate) fn acted(b: Bench, kind: u64, n: u64) -> Seen {
+pub(crate) fn acted(b: Socket, kind: u64, n: u64) -> Seen {
     match kind {
         4 => giving(pinned(b, n), 0),
         5 => giving(b.clocks(word_at(n)), 0),

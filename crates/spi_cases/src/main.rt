@@ -1,6 +1,5 @@
 // Cases of document 01, a line for each: what is done, what comes out, and whether that is what the document says.
 mod act;
-mod bench;
 mod collision;
 mod expected;
 mod fault;
@@ -15,6 +14,7 @@ mod registers;
 mod selecting;
 mod side;
 mod slaves;
+mod socket;
 mod step;
 mod timing;
 

@@ -1,11 +1,11 @@
 // Runs the steps of cases, and prints a line for each case.
 use crate::act::acted;
-use crate::bench::Bench;
 use crate::expected::spif_clock;
 use crate::phrase;
 use crate::print::number;
 use crate::print::text;
 use crate::print::verdict;
+use crate::socket::Socket;
 use crate::step::KIND;
 use crate::step::byte_at;
 use spi::Levels;
@@ -15,7 +15,7 @@ use spi::Written;
 
 // The unit under test with its pins, and whether all that came out so far was as expected.
 struct Course {
-    bench: Bench,
+    socket: Socket,
     ok: bool,
 }
 
@@ -35,7 +35,7 @@ fn prepared(n: u64) -> Spi {
 }
 
 fn new_course(n: u64) -> Course {
-    let b = Bench {
+    let b = Socket {
         spi: prepared(n),
         pins: Levels {
             miso: false,
@@ -45,7 +45,10 @@ fn new_course(n: u64) -> Course {
         },
         quiet: 0,
     };
-    Course { bench: b, ok: true }
+    Course {
+        socket: b,
+        ok: true,
+    }
 }
 
 // The words of what begins or ends a line.
@@ -67,9 +70,9 @@ fn begun(c: Course, kind: u64, n: u64) -> Course {
     if kind == 2 {
         return new_course(n);
     }
-    let b = c.bench;
+    let b = c.socket;
     Course {
-        bench: b,
+        socket: b,
         ok: c.ok || kind == 0,
     }
 }
@@ -95,11 +98,11 @@ fn expected(kind: u64, n: u64) -> u64 {
 
 fn stepped(c: Course, kind: u64, n: u64) -> Course {
     phrase::done(kind, n);
-    let a = acted(c.bench, kind, n);
+    let a = acted(c.socket, kind, n);
     phrase::came(kind, a.came);
-    let b = a.bench;
+    let b = a.socket;
     Course {
-        bench: b,
+        socket: b,
         ok: c.ok && a.came == expected(kind, n),
     }
 }

@@ -1,16 +1,16 @@
 // The other side of the wires: a slave to a unit that is master, a master to a unit that is slave. It keeps to a mode, given as SPCR has it,
 // and to what document 01 says of edges.
-use crate::bench::Bench;
 use crate::expected::at_once;
 use crate::expected::in_order;
 use crate::expected::pause;
 use crate::expected::puts;
 use crate::expected::samples;
+use crate::socket::Socket;
 use spi::Levels;
 ghost use Prim.Native.Nat.{_≤_};
 
 pub struct Side {
-    pub bench: Bench,
+    pub socket: Socket,
     // Bits still to send, the next one on top.
     rest: u8,
     // Bits that came, the last one lowest.
@@ -45,10 +45,10 @@ fn is_master(spcr: u8) -> bool {
 
 impl Side {
     fn put(self, spcr: u8) -> Side {
-        let b = self.bench;
+        let b = self.socket;
         let p = wired(b.pins, is_master(spcr), self.rest / 128 == 1);
         Side {
-            bench: b.with_pins(p),
+            socket: b.with_pins(p),
             rest: self.rest % 128 * 2,
             got: self.got,
             edges: self.edges,
@@ -56,9 +56,9 @@ impl Side {
     }
 
     fn taken(self, spcr: u8, output: u8) -> Side {
-        let b = self.bench;
+        let b = self.socket;
         Side {
-            bench: b,
+            socket: b,
             rest: self.rest,
             got: self.got % 128 * 2 + sent(is_master(spcr), output),
             edges: self.edges,
@@ -76,9 +76,9 @@ impl Side {
         self
     }
 
-    fn with_bench(self, b: Bench, edges: u8) -> Side {
+    fn with_socket(self, b: Socket, edges: u8) -> Side {
         Side {
-            bench: b,
+            socket: b,
             rest: self.rest,
             got: self.got,
             edges: edges,
@@ -87,13 +87,13 @@ impl Side {
 
     // A clock of a unit that is master: an edge is seen where SCK of the output turns.
     fn watched(self, spcr: u8) -> Side {
-        let before = self.bench.output();
-        let b = self.bench.clock();
+        let before = self.socket.output();
+        let b = self.socket.clock();
         if before / 8 % 2 == b.output() / 8 % 2 {
-            return self.with_bench(b, self.edges);
+            return self.with_socket(b, self.edges);
         }
         let edge = self.edges % 16 + 1;
-        self.with_bench(b, edge).edged(spcr, edge, before)
+        self.with_socket(b, edge).edged(spcr, edge, before)
     }
 
     fn follows(self, spcr: u8, clocks: u16) -> Side {
@@ -106,9 +106,9 @@ impl Side {
 
     // Edge for a unit that is slave, after some clocks.
     fn turned(self, spcr: u8, edge: u8, clocks: u16) -> Side {
-        let b = self.bench.clocks(clocks);
-        let s = self.with_bench(b, edge).edged(spcr, edge, b.output());
-        s.with_bench(s.bench.edge(), edge)
+        let b = self.socket.clocks(clocks);
+        let s = self.with_socket(b, edge).edged(spcr, edge, b.output());
+        s.with_socket(s.socket.edge(), edge)
     }
 
     fn leads(self, spcr: u8, clocks: u8) -> Side {
@@ -126,11 +126,11 @@ impl Side {
 }
 
 // The other side before edge 1, with a byte to send.
-fn ready(b: Bench, spcr: u8, x: u8) -> Side {
+fn ready(b: Socket, spcr: u8, x: u8) -> Side {
     let s = b.spi;
     let p = b.pins;
     let side = Side {
-        bench: Bench {
+        socket: Socket {
             spi: s,
             pins: p,
             quiet: 0,
@@ -146,7 +146,7 @@ fn ready(b: Bench, spcr: u8, x: u8) -> Side {
 }
 
 // A byte sent to a unit, and one received from it.
-pub(crate) fn exchanged(b: Bench, spcr: u8, clocks: u8, x: u8) -> Side {
+pub(crate) fn exchanged(b: Socket, spcr: u8, clocks: u8, x: u8) -> Side {
     let side = ready(b, spcr, x);
     if is_master(spcr) {
         return side.follows(spcr, 16 * clocks as u16);

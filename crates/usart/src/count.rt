@@ -187,33 +187,24 @@ impl Usart {
         Span(b.left.0 as usize)
     }
 
-    fn counted(self, n: Span) -> Usart
+    fn counted(mut self, n: Span) -> Usart
         requires { ⌜ 1 ≤ n .0 ⌝ }
         requires { ⌜ n .0 ≤ quietOf self ⌝ }
         ensures { λ r. ⌜ r ≡ countedOf self (n .0) ⌝ }
     {
         let b = self.baud;
         let f = self.format;
-        let c = self.control;
-        let s = self.sender;
-        let r = self.receiver;
         if b.ticks() {
             let k = b.clocks_as_ticks(n);
-            return Usart {
-                baud: b,
-                format: f,
-                control: c,
-                sender: s.counted(f, k),
-                receiver: r.counted(c.rxen, f, k),
-            };
+            let s = self.sender.counted(f, k);
+            let r = self.receiver.counted(self.control.rxen, f, k);
+            self.sender = s;
+            self.receiver = r;
+            return self;
         }
-        Usart {
-            baud: b.counted(n),
-            format: f,
-            control: c,
-            sender: s,
-            receiver: r,
-        }
+        let next = b.counted(n);
+        self.baud = next;
+        self
     }
 
     // At most n clocks that only count, at once: RxD is not looked at in them.

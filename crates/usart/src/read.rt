@@ -100,26 +100,17 @@ impl Usart {
         (f.data % 256) as u8
     }
 
-    fn popped(self) -> Usart
+    fn popped(mut self) -> Usart
         ensures { λ r. ⌜ r ≡ poppedOf self ⌝ }
     {
-        let b = self.baud;
-        let f = self.format;
-        let c = self.control;
-        let s = self.sender;
         let r = self.receiver;
-        let p = r.sampler;
-        let q = r.queue.taken();
-        Usart {
-            baud: b,
-            format: f,
-            control: c,
-            sender: s,
-            receiver: Receiver {
-                sampler: p,
-                queue: q,
-            },
-        }
+        let s = r.sampler;
+        let next = Receiver {
+            sampler: s,
+            queue: r.queue.taken(),
+        };
+        self.receiver = next;
+        self
     }
 
     pub fn read(self, register: Register) -> Reading

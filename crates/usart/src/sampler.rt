@@ -63,35 +63,20 @@ fn idle(last: bool, rxd: bool) -> Sampled
 
 impl Reception {
     // Sample n is taken; the first two voting ones are kept.
-    fn cast(self, f: Format, n: Sample, rxd: bool) -> Reception
+    fn cast(mut self, f: Format, n: Sample, rxd: bool) -> Reception
         ensures { λ r. ⌜ r ≡ castOf f self n rxd ⌝ }
     {
         let vote = f.first_vote();
+        self.sample = n;
         if n.0 == vote {
-            return Reception {
-                bit: self.bit,
-                sample: n,
-                first: rxd,
-                second: self.second,
-                word: self.word,
-            };
+            self.first = rxd;
+            return self;
         }
         if n.0 == vote + 1 {
-            return Reception {
-                bit: self.bit,
-                sample: n,
-                first: self.first,
-                second: rxd,
-                word: self.word,
-            };
+            self.second = rxd;
+            return self;
         }
-        Reception {
-            bit: self.bit,
-            sample: n,
-            first: self.first,
-            second: self.second,
-            word: self.word,
-        }
+        self
     }
 
     // The bit's last sample is taken. (The stop bit has none: its frame has completed by then.)

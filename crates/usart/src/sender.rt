@@ -151,15 +151,10 @@ impl Sender {
     }
 
     // TXC is cleared.
-    pub fn acknowledged(self) -> Sender
+    pub fn acknowledged(mut self) -> Sender
         ensures { λ r. ⌜ r ≡ acknowledgedOf self ⌝ }
     {
-        let b = self.buffer;
-        let s = self.shifter;
-        Sender {
-            buffer: b,
-            shifter: s,
-            txc: false,
-        }
+        self.txc = false;
+        self
     }
 }

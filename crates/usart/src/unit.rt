@@ -96,23 +96,15 @@ impl Usart {
     }
 
     // One clock, with the level of RxD.
-    pub fn clock(self, rxd: bool) -> Usart
+    pub fn clock(mut self, rxd: bool) -> Usart
         ensures { λ r. ⌜ r ≡ clockOf self rxd ⌝ }
     {
         if self.baud.ticks() {
             return self.ticked(rxd);
         }
-        let f = self.format;
-        let c = self.control;
-        let s = self.sender;
-        let r = self.receiver;
-        Usart {
-            baud: self.baud.next(),
-            format: f,
-            control: c,
-            sender: s,
-            receiver: r,
-        }
+        let b = self.baud.next();
+        self.baud = b;
+        self
     }
 
     fn driven(self) -> bool

@@ -31,52 +31,25 @@ pub enum Written {
 }
 
 impl Usart {
-    fn with_sender(self, s: Sender) -> Usart
+    fn with_sender(mut self, s: Sender) -> Usart
         ensures { λ r. ⌜ r ≡ withSender self s ⌝ }
     {
-        let b = self.baud;
-        let f = self.format;
-        let c = self.control;
-        let r = self.receiver;
-        Usart {
-            baud: b,
-            format: f,
-            control: c,
-            sender: s,
-            receiver: r,
-        }
+        self.sender = s;
+        self
     }
 
-    fn with_format(self, f: Format) -> Usart
+    fn with_format(mut self, f: Format) -> Usart
         ensures { λ r. ⌜ r ≡ withFormat self f ⌝ }
     {
-        let b = self.baud;
-        let c = self.control;
-        let s = self.sender;
-        let r = self.receiver;
-        Usart {
-            baud: b,
-            format: f,
-            control: c,
-            sender: s,
-            receiver: r,
-        }
+        self.format = f;
+        self
     }
 
-    fn with_baud(self, b: Baud) -> Usart
+    fn with_baud(mut self, b: Baud) -> Usart
         ensures { λ r. ⌜ r ≡ withBaud self b ⌝ }
     {
-        let f = self.format;
-        let c = self.control;
-        let s = self.sender;
-        let r = self.receiver;
-        Usart {
-            baud: b,
-            format: f,
-            control: c,
-            sender: s,
-            receiver: r,
-        }
+        self.baud = b;
+        self
     }
 
     // The format f, unless it changes while busy, which is judged on the state before the write.

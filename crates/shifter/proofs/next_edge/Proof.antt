@@ -4,9 +4,6 @@ use borrow.Author.Needs.{needs}
 use Rattle.shifter.proofs.next_edge.Statement.{statement}
 use Rattle.shifter.proofs.next_edge.Tie as tie
 
-add-result : tie.Need-add-result
-add-result c = search needs
-
 returns : tie.Need-returns
 unfolding nextEdge
 returns c = search picks
@@ -16,4 +13,4 @@ unfolding nextEdge
 returns-2 c = search picks
 
 pub next-edge-spec : {M : Type 1} → statement M
-next-edge-spec = tie.close (tie.spec add-result returns returns-2)
+next-edge-spec = tie.close (tie.spec (λ c. search needs) returns returns-2)

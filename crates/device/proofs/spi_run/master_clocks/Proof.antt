@@ -40,5 +40,6 @@ returns c = spi-done (c .before .loop .inv .1) (omega arith)
 pub master-clocks-spec : {M : Type 1} → statement M
 master-clocks-spec =
     tie.close
-    (tie.spec Inv-loop μ-loop loop-holds (λ c. omega arith) (λ c κs. search needs) (λ c κs. search needs) slice-read-sum
-    (λ c κs. search needs) (λ c κs. search needs) slice-write-outputs (λ c. omega arith) (λ c. omega arith) loop-again same-length returns)
+    (tie.spec Inv-loop μ-loop loop-holds (λ c. omega arith) (λ c κs. search needs) (λ c κs. search needs)
+    slice-read-sum (λ c κs. search needs) (λ c κs. search needs) slice-write-outputs (λ c. omega arith)
+    (λ c. omega arith) loop-again same-length returns)

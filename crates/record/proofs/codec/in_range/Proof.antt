@@ -8,5 +8,4 @@ unfolding inRange
 returns c = rw (c .before .usart-fits .ensures, c .spi-fits .ensures)
 
 pub in-range-spec : {M : Type 1} → statement M
-in-range-spec = tie.close
-    (tie.spec (λ c κs. search needs) (λ c κs. search needs) returns)
+in-range-spec = tie.close (tie.spec (λ c κs. search needs) (λ c κs. search needs) returns)

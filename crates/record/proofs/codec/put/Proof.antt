@@ -13,5 +13,4 @@ returns c =
     c .before .before .copy .ensures .1 ∙ copied _ _ h
 
 pub put-spec : {M : Type 1} → statement M
-put-spec = tie.close
-    (tie.spec (λ c. search needs) (λ c κs. search needs) (λ c. search needs) returns)
+put-spec = tie.close (tie.spec (λ c. search needs) (λ c κs. search needs) (λ c. search needs) returns)

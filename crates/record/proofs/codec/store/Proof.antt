@@ -17,5 +17,4 @@ unfolding storedOf
 returns-2 c = search picks
 
 pub store-spec : {M : Type 1} → statement M
-store-spec = tie.close
-    (tie.spec (λ c κs. search needs) (λ c κs. search needs) (λ c. search needs) returns returns-2)
+store-spec = tie.close (tie.spec (λ c κs. search needs) (λ c κs. search needs) (λ c. search needs) returns returns-2)

@@ -8,5 +8,4 @@ returns : tie.Need-returns
 returns c = c .before .copy .ensures .1 ∙ copied _ _ (c .before .before .before .before .pre)
 
 pub taken-spec : {M : Type 1} → statement M
-taken-spec = tie.close
-    (tie.spec (λ c. search needs) (λ c κs. search needs) returns)
+taken-spec = tie.close (tie.spec (λ c. search needs) (λ c κs. search needs) returns)

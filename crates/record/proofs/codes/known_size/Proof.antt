@@ -11,5 +11,6 @@ returns-2 : tie.Need-returns-2
 returns-2 c = ap sizeIn (sym (c .enum-told .given .1) ∙ c .before .before .size-of .ensures)
 
 pub known-size-spec : {M : Type 1} → statement M
-known-size-spec = tie.close
+known-size-spec =
+    tie.close
     (tie.spec (λ c κs. search needs) (λ c. search needs) (λ c. search needs) returns returns-2)

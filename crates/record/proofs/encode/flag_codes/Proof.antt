@@ -6,5 +6,4 @@ returns : tie.Need-returns
 returns c = rw (c .before .flag-code .ensures, c .flag-code2 .ensures)
 
 pub flag-codes-spec : {M : Type 1} → statement M
-flag-codes-spec = tie.close
-    (tie.spec (λ c κs. search needs) (λ c κs. search needs) returns)
+flag-codes-spec = tie.close (tie.spec (λ c κs. search needs) (λ c κs. search needs) returns)

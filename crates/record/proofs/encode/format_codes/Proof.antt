@@ -6,5 +6,4 @@ returns : tie.Need-returns
 returns c = rw (c .before .size-code .ensures .0, c .upm .ensures .0)
 
 pub format-codes-spec : {M : Type 1} → statement M
-format-codes-spec = tie.close
-    (tie.spec (λ c κs. search needs) (λ c κs. search needs) returns)
+format-codes-spec = tie.close (tie.spec (λ c κs. search needs) (λ c κs. search needs) returns)

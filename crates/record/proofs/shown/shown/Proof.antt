@@ -8,5 +8,4 @@ unfolding isShown
 returns c = rw (c .before .usart-shown .ensures, c .spi-shown .ensures)
 
 pub shown-spec : {M : Type 1} → statement M
-shown-spec = tie.close
-    (tie.spec (λ c κs. search needs) (λ c κs. search needs) returns)
+shown-spec = tie.close (tie.spec (λ c κs. search needs) (λ c κs. search needs) returns)

@@ -12,5 +12,4 @@ returns c =
     rw (lt-ltb (t .shift) 256 s, lt-ltb (t .received) 256 r, c .before .before .half .ensures)
 
 pub counts-fit-spec : {M : Type 1} → statement M
-counts-fit-spec = tie.close
-    (tie.spec (λ c κs. search needs) returns)
+counts-fit-spec = tie.close (tie.spec (λ c κs. search needs) returns)

@@ -17,5 +17,4 @@ unfolding dueFits
 returns-3 c = search picks
 
 pub due-fits-spec : {M : Type 1} → statement M
-due-fits-spec = tie.close
-    (tie.spec (λ c κs. search needs) returns returns-2 returns-3)
+due-fits-spec = tie.close (tie.spec (λ c κs. search needs) returns returns-2 returns-3)

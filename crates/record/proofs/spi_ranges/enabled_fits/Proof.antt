@@ -13,5 +13,4 @@ unfolding enabledFits
 returns-2 c = search picks
 
 pub enabled-fits-spec : {M : Type 1} → statement M
-enabled-fits-spec = tie.close
-    (tie.spec (λ c κs. search needs) returns returns-2)
+enabled-fits-spec = tie.close (tie.spec (λ c κs. search needs) returns returns-2)

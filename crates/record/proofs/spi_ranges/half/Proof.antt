@@ -8,5 +8,4 @@ returns : tie.Need-returns
 returns c = c .half .ensures ∙ ap halfOf (c .before .divisor-number .ensures)
 
 pub half-spec : {M : Type 1} → statement M
-half-spec = tie.close
-    (tie.spec (λ c κs. search needs) (λ c κs. search needs) returns)
+half-spec = tie.close (tie.spec (λ c κs. search needs) (λ c κs. search needs) returns)

@@ -12,5 +12,4 @@ returns c =
     rw (lt-ltb (s .control .spcr) 256 p, lt-ltb (s .control .ddrb) 256 q) (c .transfer-fits .ensures)
 
 pub spi-fits-spec : {M : Type 1} → statement M
-spi-fits-spec = tie.close
-    (tie.spec (λ c κs. search needs) returns)
+spi-fits-spec = tie.close (tie.spec (λ c κs. search needs) returns)

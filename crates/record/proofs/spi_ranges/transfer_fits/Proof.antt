@@ -6,6 +6,4 @@ returns : tie.Need-returns
 returns c = rw (c .before .before .counts-fit .ensures, c .before .enabled-fits .ensures, c .due-fits .ensures)
 
 pub transfer-fits-spec : {M : Type 1} → statement M
-transfer-fits-spec =
-    tie.close
-    (tie.spec (λ c κs. search needs) (λ c κs. search needs) (λ c κs. search needs) returns)
+transfer-fits-spec = tie.close (tie.spec (λ c κs. search needs) (λ c κs. search needs) (λ c κs. search needs) returns)

@@ -8,5 +8,4 @@ returns : tie.Need-returns
 returns c = c .queue-with .ensures ∙ ap (queueWith (c .before .before .args .b)) (c .before .places-at .ensures)
 
 pub queue-at-spec : {M : Type 1} → statement M
-queue-at-spec = tie.close
-    (tie.spec (λ c κs. search needs) (λ c κs. search needs) returns)
+queue-at-spec = tie.close (tie.spec (λ c κs. search needs) (λ c κs. search needs) returns)

@@ -10,6 +10,4 @@ returns c =
     ∙ ap₂ (senderWith (c .before .before .before .args .b)) (c .before .before .buffer-at .ensures) (c .before .shifter-at .ensures)
 
 pub sender-at-spec : {M : Type 1} → statement M
-sender-at-spec =
-    tie.close
-    (tie.spec (λ c κs. search needs) (λ c κs. search needs) (λ c κs. search needs) returns)
+sender-at-spec = tie.close (tie.spec (λ c κs. search needs) (λ c κs. search needs) (λ c κs. search needs) returns)

@@ -9,6 +9,4 @@ returns : tie.Need-returns
 returns c = c .shifter-of .ensures ∙ ap (shifterOf (setAt (c .before .before .args .t1) 18)) (c .before .transmission-at .ensures)
 
 pub shifter-at-spec : {M : Type 1} → statement M
-shifter-at-spec =
-    tie.close
-    (tie.spec (λ c. search needs) (λ c κs. search needs) (λ c κs. search needs) returns)
+shifter-at-spec = tie.close (tie.spec (λ c. search needs) (λ c κs. search needs) (λ c κs. search needs) returns)

@@ -13,5 +13,4 @@ unfolding disabledFits
 returns-2 c = search picks
 
 pub disabled-fits-spec : {M : Type 1} → statement M
-disabled-fits-spec = tie.close
-    (tie.spec returns (λ c κs. search needs) returns-2)
+disabled-fits-spec = tie.close (tie.spec returns (λ c κs. search needs) returns-2)

@@ -6,5 +6,4 @@ returns : tie.Need-returns
 returns c = rw (c .before .sampler-fits .ensures, c .places-fit .ensures)
 
 pub receiver-fits-spec : {M : Type 1} → statement M
-receiver-fits-spec = tie.close
-    (tie.spec (λ c κs. search needs) (λ c κs. search needs) returns)
+receiver-fits-spec = tie.close (tie.spec (λ c κs. search needs) (λ c κs. search needs) returns)

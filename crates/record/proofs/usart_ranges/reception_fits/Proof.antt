@@ -8,5 +8,4 @@ returns : tie.Need-returns
 returns c = ap₂ (_&&_) (c .before .reception-within .ensures) (c .undecided .ensures)
 
 pub reception-fits-spec : {M : Type 1} → statement M
-reception-fits-spec = tie.close
-    (tie.spec (λ c κs. search needs) (λ c κs. search needs) returns)
+reception-fits-spec = tie.close (tie.spec (λ c κs. search needs) (λ c κs. search needs) returns)

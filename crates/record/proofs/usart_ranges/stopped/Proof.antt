@@ -6,5 +6,4 @@ returns : tie.Need-returns
 returns c = rw (c .before .before .low .ensures, c .before .empty .ensures)
 
 pub stopped-spec : {M : Type 1} → statement M
-stopped-spec = tie.close
-    (tie.spec (λ c κs. search needs) (λ c κs. search needs) returns)
+stopped-spec = tie.close (tie.spec (λ c κs. search needs) (λ c κs. search needs) returns)

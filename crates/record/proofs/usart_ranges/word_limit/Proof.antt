@@ -9,5 +9,4 @@ returns : tie.Need-returns
 returns c = ap (λ (n : ℕ). n * 2) (c .top .ensures .0) ∙ limit-top (c .before .args .f)
 
 pub word-limit-spec : {M : Type 1} → statement M
-word-limit-spec = tie.close
-    (tie.spec (λ c κs. search needs) (λ c. search needs) returns)
+word-limit-spec = tie.close (tie.spec (λ c κs. search needs) (λ c. search needs) returns)

@@ -36,14 +36,5 @@ returns-2 c = search needs
 pub clocks-until-spec : {M : Type 1} → statement M
 clocks-until-spec =
     tie.close
-    (tie.spec
-    Inv-loop
-    μ-loop
-    loop-holds
-    signal-requires
-    returns
-    clock-requires
-    add-clocks
-    loop-less
-    loop-again
+    (tie.spec Inv-loop μ-loop loop-holds signal-requires returns clock-requires add-clocks loop-less loop-again
     returns-2)

@@ -28,6 +28,4 @@ returns : tie.Need-returns Inv-loop μ-loop
 returns c = search needs
 
 pub held-spec : {M : Type 1} → statement M
-held-spec =
-    tie.close
-    (tie.spec Inv-loop μ-loop loop-holds clock-requires add-counter loop-less loop-again returns)
+held-spec = tie.close (tie.spec Inv-loop μ-loop loop-holds clock-requires add-counter loop-less loop-again returns)

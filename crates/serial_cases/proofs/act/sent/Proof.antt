@@ -42,16 +42,5 @@ returns c = search needs
 pub sent-spec : {M : Type 1} → statement M
 sent-spec =
     tie.close
-    (tie.spec
-    Inv-loop
-    μ-loop
-    bit-clocks-requires
-    loop-holds
-    word-at-requires
-    level-requires
-    turned-in-requires
-    held-requires
-    add-k
-    loop-less
-    loop-again
-    returns)
+    (tie.spec Inv-loop μ-loop bit-clocks-requires loop-holds word-at-requires level-requires turned-in-requires
+    held-requires add-k loop-less loop-again returns)

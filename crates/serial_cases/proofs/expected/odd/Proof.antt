@@ -28,5 +28,4 @@ returns : tie.Need-returns Inv-loop μ-loop
 returns c = search needs
 
 pub odd-spec : {M : Type 1} → statement M
-odd-spec =
-    tie.close (tie.spec Inv-loop μ-loop loop-holds bit-requires add-n loop-less loop-again returns)
+odd-spec = tie.close (tie.spec Inv-loop μ-loop loop-holds bit-requires add-n loop-less loop-again returns)

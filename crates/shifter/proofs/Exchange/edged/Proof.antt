@@ -4,12 +4,6 @@ use Rattle.shifter.proofs.ExchangeLaws.{onward-is, complete-is}
 use Rattle.shifter.proofs.Exchange.edged.Statement.{statement}
 use Rattle.shifter.proofs.Exchange.edged.Tie as tie
 
-next-edge-requires : tie.Need-next-edge-requires
-next-edge-requires c κs = search needs
-
-edge-requires : tie.Need-edge-requires
-edge-requires c κs = search needs
-
 returns : tie.Need-returns
 returns c = sym (onward-is _ _ _ (c .before .before .before .next-edge .ensures) (c .before .edge .ensures) (c .if1 .taken))
 
@@ -17,4 +11,4 @@ returns-2 : tie.Need-returns-2
 returns-2 c = sym (complete-is _ _ _ (c .before .before .before .next-edge .ensures) (c .before .edge .ensures) (c .if1 .left))
 
 pub edged-spec : {M : Type 1} → statement M
-edged-spec = tie.close (tie.spec next-edge-requires edge-requires returns returns-2)
+edged-spec = tie.close (tie.spec (λ c κs. search needs) (λ c κs. search needs) returns returns-2)

@@ -5,21 +5,9 @@ use borrow.Author.Needs.{needs}
 use Rattle.shifter.proofs.Mode.edge.Statement.{statement}
 use Rattle.shifter.proofs.Mode.edge.Tie as tie
 
-sampling-requires : tie.Need-sampling-requires
-sampling-requires c κs = search needs
-
-shifted-in-requires : tie.Need-shifted-in-requires
-shifted-in-requires c κs = search needs
-
 returns : tie.Need-returns
 unfolding edgeOf
 returns c = rw (c .shifted-in .ensures, ← c .before .before .sampling .ensures) (pick-true _ _ _ _ (c .before .if1 .taken) refl)
-
-putting-requires : tie.Need-putting-requires
-putting-requires c κs = search needs
-
-out-bit-requires : tie.Need-out-bit-requires
-out-bit-requires c κs = search needs
 
 returns-2 : tie.Need-returns-2
 unfolding edgeOf
@@ -32,11 +20,5 @@ returns-3 c = rw (← c .before .before .before .sampling .ensures, ← c .befor
 pub edge-spec : {M : Type 1} → statement M
 edge-spec =
     tie.close
-    (tie.spec
-    sampling-requires
-    shifted-in-requires
-    returns
-    putting-requires
-    out-bit-requires
-    returns-2
-    returns-3)
+    (tie.spec (λ c κs. search needs) (λ c κs. search needs) returns (λ c κs. search needs) (λ c κs. search needs)
+    returns-2 returns-3)

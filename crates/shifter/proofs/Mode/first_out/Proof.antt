@@ -8,12 +8,9 @@ returns : tie.Need-returns
 unfolding firstOut
 returns c = search picks
 
-out-bit-requires : tie.Need-out-bit-requires
-out-bit-requires c κs = search needs
-
 returns-2 : tie.Need-returns-2
 unfolding firstOut
 returns-2 c = search picks
 
 pub first-out-spec : {M : Type 1} → statement M
-first-out-spec = tie.close (tie.spec returns out-bit-requires returns-2)
+first-out-spec = tie.close (tie.spec returns (λ c κs. search needs) returns-2)

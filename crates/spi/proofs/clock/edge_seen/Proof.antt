@@ -4,12 +4,6 @@ use borrow.Author.Needs.{needs}
 use Rattle.spi.proofs.clock.edge_seen.Statement.{statement}
 use Rattle.spi.proofs.clock.edge_seen.Tie as tie
 
-differs-requires : tie.Need-differs-requires
-differs-requires c κs = search needs
-
-differs-requires-2 : tie.Need-differs-requires-2
-differs-requires-2 c κs = search needs
-
 returns : tie.Need-returns
 unfolding isSckEdge
 returns c = search picks
@@ -23,5 +17,4 @@ unfolding isSckEdge
 returns-3 c = search picks
 
 pub edge-seen-spec : {M : Type 1} → statement M
-edge-seen-spec =
-    tie.close (tie.spec differs-requires differs-requires-2 returns returns-2 returns-3)
+edge-seen-spec = tie.close (tie.spec (λ c κs. search needs) (λ c κs. search needs) returns returns-2 returns-3)

@@ -6,12 +6,6 @@ use borrow.Author.Needs.{needs}
 use Rattle.spi.proofs.unit.pin.Statement.{statement}
 use Rattle.spi.proofs.unit.pin.Tie as tie
 
-digit-requires : tie.Need-digit-requires
-digit-requires c κs = search needs
-
-add-result : tie.Need-add-result
-add-result c = search needs
-
 returns : tie.Need-returns
 unfolding pinOf
 returns c = ((pick-true _ _ _ _ (c .before .if1 .taken) rw (c .digit .ensures .0)), omega arith)
@@ -21,4 +15,4 @@ unfolding pinOf
 returns-2 c = ((pick-false _ _ _ _ (c .if1 .left) refl), omega arith)
 
 pub pin-spec : {M : Type 1} → statement M
-pin-spec = tie.close (tie.spec digit-requires add-result returns returns-2)
+pin-spec = tie.close (tie.spec (λ c κs. search needs) (λ c. search needs) returns returns-2)

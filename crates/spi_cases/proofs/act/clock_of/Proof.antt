@@ -36,14 +36,5 @@ returns-2 c = search needs
 pub clock-of-spec : {M : Type 1} → statement M
 clock-of-spec =
     tie.close
-    (tie.spec
-    Inv-loop
-    μ-loop
-    loop-holds
-    signal-requires
-    returns
-    clock-requires
-    add-clock
-    loop-less
-    loop-again
+    (tie.spec Inv-loop μ-loop loop-holds signal-requires returns clock-requires add-clock loop-less loop-again
     returns-2)

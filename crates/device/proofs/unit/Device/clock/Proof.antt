@@ -9,4 +9,6 @@ returns c =
     one-clock (a .self) (a .level) (c .before .clocks .ensures .0) (c .before .clocks .ensures .1)
 
 pub clock-spec : {M : Type 1} → statement M
-clock-spec = tie.close (tie.spec (λ c. search needs) (λ c. search needs) (λ c κs. search needs) (λ c. search needs) returns)
+clock-spec =
+    tie.close
+    (tie.spec (λ c. search needs) (λ c. search needs) (λ c κs. search needs) (λ c. search needs) returns)

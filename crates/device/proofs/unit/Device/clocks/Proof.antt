@@ -31,6 +31,6 @@ returns-3 c =
 pub clocks-spec : {M : Type 1} → statement M
 clocks-spec =
     tie.close
-    (tie.spec (λ c κs. search needs) (λ c κs. search needs) master-clocks-requires (λ c κs. search needs) (λ c. search needs) returns
-    (λ c κs. search needs) (λ c κs. search needs) (λ c κs. search needs) (λ c. search needs) returns-2 off-clocks-requires (λ c κs. search needs)
-    (λ c. search needs) returns-3)
+    (tie.spec (λ c κs. search needs) (λ c κs. search needs) master-clocks-requires (λ c κs. search needs)
+    (λ c. search needs) returns (λ c κs. search needs) (λ c κs. search needs) (λ c κs. search needs)
+    (λ c. search needs) returns-2 off-clocks-requires (λ c κs. search needs) (λ c. search needs) returns-3)

@@ -12,5 +12,4 @@ returns : tie.Need-returns
 returns c = ap₂ (_+_) (c .before .output .ensures) (c .output2 .ensures)
 
 pub output-spec : {M : Type 1} → statement M
-output-spec = tie.close
-    (tie.spec (λ c κs. search needs) (λ c κs. search needs) add-result returns)
+output-spec = tie.close (tie.spec (λ c κs. search needs) (λ c κs. search needs) add-result returns)

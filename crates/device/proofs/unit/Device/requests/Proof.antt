@@ -12,5 +12,4 @@ returns : tie.Need-returns
 returns c = ap₂ (_+_) (c .before .requests .ensures) (c .requests2 .ensures)
 
 pub requests-spec : {M : Type 1} → statement M
-requests-spec = tie.close
-    (tie.spec (λ c κs. search needs) (λ c κs. search needs) add-result returns)
+requests-spec = tie.close (tie.spec (λ c κs. search needs) (λ c κs. search needs) add-result returns)

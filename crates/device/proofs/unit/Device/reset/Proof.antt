@@ -6,5 +6,4 @@ returns : tie.Need-returns
 returns c = rw (c .before .reset .ensures, c .reset2 .ensures)
 
 pub reset-spec : {M : Type 1} → statement M
-reset-spec = tie.close
-    (tie.spec (λ c κs. search needs) (λ c κs. search needs) returns)
+reset-spec = tie.close (tie.spec (λ c κs. search needs) (λ c κs. search needs) returns)

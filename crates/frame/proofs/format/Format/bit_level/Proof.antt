@@ -10,21 +10,9 @@ returns : tie.Need-returns
 unfolding frameBit
 returns c = (pick-true _ _ _ _ (eq-eqb _ _ (c .if1 .taken)) (refl))
 
-word-bits-requires : tie.Need-word-bits-requires
-word-bits-requires c κs = search needs
-
 returns-2 : tie.Need-returns-2
 unfolding frameBit
 returns-2 c = rw (← c .before .word-bits .ensures .0) (pick-false _ _ _ _ (ne-eqb _ _ (c .before .before .if1 .left)) ((pick-false _ _ _ _ (lt-leb _ _ (c .if2 .taken)) (refl))))
-
-sub-result : tie.Need-sub-result
-sub-result c = search needs
-
-cast-result : tie.Need-cast-result
-cast-result c = search needs
-
-shr-result : tie.Need-shr-result
-shr-result c = search needs
 
 returns-3 : tie.Need-returns-3
 unfolding frameBit
@@ -33,4 +21,5 @@ returns-3 c = rw (← c .before .word-bits .ensures .0) (pick-false _ _ _ _ (ne-
 pub bit-level-spec : {M : Type 1} → statement M
 bit-level-spec =
     tie.close
-    (tie.spec returns word-bits-requires returns-2 sub-result cast-result shr-result returns-3)
+    (tie.spec returns (λ c κs. search needs) returns-2 (λ c. search needs) (λ c. search needs) (λ c. search needs)
+    returns-3)

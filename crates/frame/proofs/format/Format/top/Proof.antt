@@ -6,18 +6,6 @@ use borrow.Author.Needs.{needs}
 use Rattle.frame.proofs.format.Format.top.Statement.{statement}
 use Rattle.frame.proofs.format.Format.top.Tie as tie
 
-weight-requires : tie.Need-weight-requires
-weight-requires c κs = search needs
-
-enum-told : tie.Need-enum-told
-enum-told c = search needs
-
-enum-told-2 : tie.Need-enum-told-2
-enum-told-2 c = search needs
-
-enum-told-3 : tie.Need-enum-told-3
-enum-told-3 c = search needs
-
 returns : tie.Need-returns
 returns c = rw (c .enum-told .given .1) (ap (λ (w : ℕ). w / 2) (c .before .before .weight .ensures .0) ∙ top-off (c .before .before .before .args .self .size), omega arith)
 
@@ -30,4 +18,5 @@ returns-3 c = rw (c .enum-told3 .given .1) (c .before .before .weight .ensures .
 pub top-spec : {M : Type 1} → statement M
 top-spec =
     tie.close
-    (tie.spec weight-requires enum-told enum-told-2 enum-told-3 returns returns-2 returns-3)
+    (tie.spec (λ c κs. search needs) (λ c. search needs) (λ c. search needs) (λ c. search needs) returns returns-2
+    returns-3)

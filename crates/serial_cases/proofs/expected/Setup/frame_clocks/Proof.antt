@@ -5,15 +5,6 @@ use borrow.Author.Needs.{needs}
 use Rattle.serial_cases.proofs.expected.Setup.frame_clocks.Statement.{statement}
 use Rattle.serial_cases.proofs.expected.Setup.frame_clocks.Tie as tie
 
-frame-bits-requires : tie.Need-frame-bits-requires
-frame-bits-requires c κs = search needs
-
-cast-result : tie.Need-cast-result
-cast-result c = search needs
-
-bit-clocks-requires : tie.Need-bit-clocks-requires
-bit-clocks-requires c κs = search needs
-
 mul-result : tie.Need-mul-result
 mul-result c = omega (arith, mul-le-mul (c .before .frame-bits .ensures) (c .bit-clocks .ensures .1))
 
@@ -22,4 +13,5 @@ returns c = omega (arith, mul-le-mul (c .before .frame-bits .ensures) (c .bit-cl
 
 pub frame-clocks-spec : {M : Type 1} → statement M
 frame-clocks-spec =
-    tie.close (tie.spec frame-bits-requires cast-result bit-clocks-requires mul-result returns)
+    tie.close
+    (tie.spec (λ c κs. search needs) (λ c. search needs) (λ c κs. search needs) mul-result returns)

@@ -39,15 +39,5 @@ returns c = search needs
 pub bits-spec : {M : Type 1} → statement M
 bits-spec =
     tie.close
-    (tie.spec
-    Inv-loop
-    μ-loop
-    bit-clocks-requires
-    frame-bits-requires
-    loop-holds
-    level-requires
-    watched-requires
-    add-k
-    loop-less
-    loop-again
-    returns)
+    (tie.spec Inv-loop μ-loop bit-clocks-requires frame-bits-requires loop-holds level-requires watched-requires add-k
+    loop-less loop-again returns)

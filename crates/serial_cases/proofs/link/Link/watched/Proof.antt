@@ -33,13 +33,4 @@ returns c = search needs
 pub watched-spec : {M : Type 1} → statement M
 watched-spec =
     tie.close
-    (tie.spec
-    Inv-loop
-    μ-loop
-    driven-requires
-    loop-holds
-    clock-requires
-    add-counter
-    loop-less
-    loop-again
-    returns)
+    (tie.spec Inv-loop μ-loop driven-requires loop-holds clock-requires add-counter loop-less loop-again returns)

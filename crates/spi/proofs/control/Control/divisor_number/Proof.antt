@@ -4,9 +4,6 @@ use borrow.Author.Needs.{needs}
 use Rattle.spi.proofs.control.Control.divisor_number.Statement.{statement}
 use Rattle.spi.proofs.control.Control.divisor_number.Tie as tie
 
-add-result : tie.Need-add-result
-add-result c = search needs
-
 returns : tie.Need-returns
 unfolding divisorNumber
 returns c = search picks
@@ -16,4 +13,4 @@ unfolding divisorNumber
 returns-2 c = search picks
 
 pub divisor-number-spec : {M : Type 1} → statement M
-divisor-number-spec = tie.close (tie.spec add-result returns returns-2)
+divisor-number-spec = tie.close (tie.spec (λ c. search needs) returns returns-2)

@@ -4,15 +4,6 @@ use borrow.Author.Needs.{needs}
 use Rattle.spi.proofs.control.Control.keeps_master.Statement.{statement}
 use Rattle.spi.proofs.control.Control.keeps_master.Tie as tie
 
-enabled-requires : tie.Need-enabled-requires
-enabled-requires c κs = search needs
-
-master-requires : tie.Need-master-requires
-master-requires c κs = search needs
-
-ss-input-requires : tie.Need-ss-input-requires
-ss-input-requires c κs = search needs
-
 returns : tie.Need-returns
 unfolding keepsMaster
 returns c = rw (c .ss-input .ensures) (search picks)
@@ -28,4 +19,4 @@ returns-3 c = search picks
 pub keeps-master-spec : {M : Type 1} → statement M
 keeps-master-spec =
     tie.close
-    (tie.spec enabled-requires master-requires ss-input-requires returns returns-2 returns-3)
+    (tie.spec (λ c κs. search needs) (λ c κs. search needs) (λ c κs. search needs) returns returns-2 returns-3)

@@ -4,9 +4,6 @@ use borrow.Author.Needs.{needs}
 use Rattle.spi.proofs.control.Control.mode_fault.Statement.{statement}
 use Rattle.spi.proofs.control.Control.mode_fault.Tie as tie
 
-ss-input-requires : tie.Need-ss-input-requires
-ss-input-requires c κs = search needs
-
 returns : tie.Need-returns
 unfolding isModeFault
 returns c = search picks
@@ -16,4 +13,4 @@ unfolding isModeFault
 returns-2 c = search picks
 
 pub mode-fault-spec : {M : Type 1} → statement M
-mode-fault-spec = tie.close (tie.spec ss-input-requires returns returns-2)
+mode-fault-spec = tie.close (tie.spec (λ c κs. search needs) returns returns-2)

@@ -4,9 +4,6 @@ use borrow.Author.Needs.{needs}
 use Rattle.spi.proofs.unit.Spi.master_rests.Statement.{statement}
 use Rattle.spi.proofs.unit.Spi.master_rests.Tie as tie
 
-mode-fault-requires : tie.Need-mode-fault-requires
-mode-fault-requires c κs = search needs
-
 returns : tie.Need-returns
 unfolding masterRests
 returns c = search picks
@@ -16,4 +13,4 @@ unfolding masterRests
 returns-2 c = search picks
 
 pub master-rests-spec : {M : Type 1} → statement M
-master-rests-spec = tie.close (tie.spec mode-fault-requires returns returns-2)
+master-rests-spec = tie.close (tie.spec (λ c κs. search needs) returns returns-2)

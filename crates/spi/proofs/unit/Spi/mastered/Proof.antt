@@ -8,19 +8,13 @@ returns : tie.Need-returns
 unfolding masterOf
 returns c = search picks
 
-master-edge-requires : tie.Need-master-edge-requires
-master-edge-requires c κs = search needs
-
 returns-2 : tie.Need-returns-2
 unfolding masterOf
 returns-2 c = search picks
-
-sub-m : tie.Need-sub-m
-sub-m c = search needs
 
 returns-3 : tie.Need-returns-3
 unfolding masterOf
 returns-3 c = search picks
 
 pub mastered-spec : {M : Type 1} → statement M
-mastered-spec = tie.close (tie.spec returns master-edge-requires returns-2 sub-m returns-3)
+mastered-spec = tie.close (tie.spec returns (λ c κs. search needs) returns-2 (λ c. search needs) returns-3)

@@ -4,15 +4,6 @@ use borrow.Author.Needs.{needs}
 use Rattle.spi.proofs.unit.Spi.presented.Statement.{statement}
 use Rattle.spi.proofs.unit.Spi.presented.Tie as tie
 
-mode-requires : tie.Need-mode-requires
-mode-requires c κs = search needs
-
-first-out-requires : tie.Need-first-out-requires
-first-out-requires c κs = search needs
-
-with-miso-requires : tie.Need-with-miso-requires
-with-miso-requires c κs = search needs
-
 returns : tie.Need-returns
 unfolding presentedOf
 returns c =
@@ -24,4 +15,5 @@ returns-2 c = search picks
 
 pub presented-spec : {M : Type 1} → statement M
 presented-spec =
-    tie.close (tie.spec mode-requires first-out-requires with-miso-requires returns returns-2)
+    tie.close
+    (tie.spec (λ c κs. search needs) (λ c κs. search needs) (λ c κs. search needs) returns returns-2)

@@ -4,9 +4,6 @@ use borrow.Author.Needs.{needs}
 use Rattle.spi.proofs.unit.Spi.requested.Statement.{statement}
 use Rattle.spi.proofs.unit.Spi.requested.Tie as tie
 
-up-requires : tie.Need-up-requires
-up-requires c κs = search needs
-
 returns : tie.Need-returns
 unfolding isRequested
 returns c = search picks
@@ -16,4 +13,4 @@ unfolding isRequested
 returns-2 c = search picks
 
 pub requested-spec : {M : Type 1} → statement M
-requested-spec = tie.close (tie.spec up-requires returns returns-2)
+requested-spec = tie.close (tie.spec (λ c κs. search needs) returns returns-2)

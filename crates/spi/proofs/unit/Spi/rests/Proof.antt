@@ -4,19 +4,13 @@ use borrow.Author.Needs.{needs}
 use Rattle.spi.proofs.unit.Spi.rests.Statement.{statement}
 use Rattle.spi.proofs.unit.Spi.rests.Tie as tie
 
-differs-requires : tie.Need-differs-requires
-differs-requires c κs = search needs
-
 returns : tie.Need-returns
 unfolding isAtRest
 returns c = search picks
-
-step-rests-requires : tie.Need-step-rests-requires
-step-rests-requires c κs = search needs
 
 returns-2 : tie.Need-returns-2
 unfolding isAtRest
 returns-2 c = search picks
 
 pub rests-spec : {M : Type 1} → statement M
-rests-spec = tie.close (tie.spec differs-requires returns step-rests-requires returns-2)
+rests-spec = tie.close (tie.spec (λ c κs. search needs) returns (λ c κs. search needs) returns-2)

@@ -5,18 +5,6 @@ use borrow.Author.Needs.{needs}
 use Rattle.spi.proofs.unit.Spi.selected.Statement.{statement}
 use Rattle.spi.proofs.unit.Spi.selected.Tie as tie
 
-presented-requires : tie.Need-presented-requires
-presented-requires c κs = search needs
-
-cpol-requires : tie.Need-cpol-requires
-cpol-requires c κs = search needs
-
-edge-seen-requires : tie.Need-edge-seen-requires
-edge-seen-requires c κs = search needs
-
-slave-edge-requires : tie.Need-slave-edge-requires
-slave-edge-requires c κs = search needs
-
 returns : tie.Need-returns
 unfolding selectedOf
 returns c = (pick-true _ _ _ _ (sym (rw (c .before .before .before .cpol .ensures) at (c .before .before .edge-seen .ensures)) ∙ c .before .if1 .taken) (rw (c .before .before .before .before .presented .ensures) at (c .slave-edge .ensures)))
@@ -28,10 +16,5 @@ returns-2 c = (pick-false _ _ _ _ (sym (rw (c .before .before .cpol .ensures) at
 pub selected-spec : {M : Type 1} → statement M
 selected-spec =
     tie.close
-    (tie.spec
-    presented-requires
-    cpol-requires
-    edge-seen-requires
-    slave-edge-requires
-    returns
+    (tie.spec (λ c κs. search needs) (λ c κs. search needs) (λ c κs. search needs) (λ c κs. search needs) returns
     returns-2)

@@ -4,19 +4,13 @@ use borrow.Author.Needs.{needs}
 use Rattle.spi.proofs.unit.Spi.slave_rests.Statement.{statement}
 use Rattle.spi.proofs.unit.Spi.slave_rests.Tie as tie
 
-under-way-requires : tie.Need-under-way-requires
-under-way-requires c κs = search needs
-
 returns : tie.Need-returns
 unfolding slaveRests
 returns c = rw (c .under-way .ensures) (search picks)
-
-is-presented-requires : tie.Need-is-presented-requires
-is-presented-requires c κs = search needs
 
 returns-2 : tie.Need-returns-2
 unfolding slaveRests
 returns-2 c = search picks
 
 pub slave-rests-spec : {M : Type 1} → statement M
-slave-rests-spec = tie.close (tie.spec under-way-requires returns is-presented-requires returns-2)
+slave-rests-spec = tie.close (tie.spec (λ c κs. search needs) returns (λ c κs. search needs) returns-2)

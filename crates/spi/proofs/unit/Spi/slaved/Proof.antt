@@ -7,20 +7,11 @@ use borrow.Author.Needs.{needs}
 use Rattle.spi.proofs.unit.Spi.slaved.Statement.{statement}
 use Rattle.spi.proofs.unit.Spi.slaved.Tie as tie
 
-dropped-requires : tie.Need-dropped-requires
-dropped-requires c κs = search needs
-
-with-transfer-requires : tie.Need-with-transfer-requires
-with-transfer-requires c κs = search needs
-
 returns : tie.Need-returns
 unfolding slaveOf
 returns c =
     pick-true _ _ _ _ (c .if1 .taken)
     (c .before .with-transfer .ensures ∙ ap (λ (t : Transfer). withTransfer (c .before .before .before .args .self) t) (c .before .before .dropped .ensures))
-
-selected-requires : tie.Need-selected-requires
-selected-requires c κs = search needs
 
 returns-2 : tie.Need-returns-2
 unfolding slaveOf
@@ -29,4 +20,4 @@ returns-2 c = search picks
 pub slaved-spec : {M : Type 1} → statement M
 slaved-spec =
     tie.close
-    (tie.spec dropped-requires with-transfer-requires returns selected-requires returns-2)
+    (tie.spec (λ c κs. search needs) (λ c κs. search needs) returns (λ c κs. search needs) returns-2)

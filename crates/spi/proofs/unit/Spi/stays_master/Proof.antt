@@ -4,15 +4,6 @@ use borrow.Author.Needs.{needs}
 use Rattle.spi.proofs.unit.Spi.stays_master.Statement.{statement}
 use Rattle.spi.proofs.unit.Spi.stays_master.Tie as tie
 
-enabled-requires : tie.Need-enabled-requires
-enabled-requires c κs = search needs
-
-master-requires : tie.Need-master-requires
-master-requires c κs = search needs
-
-mode-fault-requires : tie.Need-mode-fault-requires
-mode-fault-requires c κs = search needs
-
 returns : tie.Need-returns
 unfolding staysMaster
 returns c = rw (c .mode-fault .ensures) (search picks)
@@ -28,4 +19,4 @@ returns-3 c = search picks
 pub stays-master-spec : {M : Type 1} → statement M
 stays-master-spec =
     tie.close
-    (tie.spec enabled-requires master-requires mode-fault-requires returns returns-2 returns-3)
+    (tie.spec (λ c κs. search needs) (λ c κs. search needs) (λ c κs. search needs) returns returns-2 returns-3)

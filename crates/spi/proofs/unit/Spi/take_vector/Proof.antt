@@ -4,12 +4,6 @@ use borrow.Author.Needs.{needs}
 use Rattle.spi.proofs.unit.Spi.take_vector.Statement.{statement}
 use Rattle.spi.proofs.unit.Spi.take_vector.Tie as tie
 
-requested-requires : tie.Need-requested-requires
-requested-requires c κs = search needs
-
-with-flags-requires : tie.Need-with-flags-requires
-with-flags-requires c κs = search needs
-
 returns : tie.Need-returns
 unfolding vectorOf
 returns c = search picks
@@ -19,4 +13,4 @@ unfolding vectorOf
 returns-2 c = search picks
 
 pub take-vector-spec : {M : Type 1} → statement M
-take-vector-spec = tie.close (tie.spec requested-requires with-flags-requires returns returns-2)
+take-vector-spec = tie.close (tie.spec (λ c κs. search needs) (λ c κs. search needs) returns returns-2)

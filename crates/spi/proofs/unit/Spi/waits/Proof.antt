@@ -5,12 +5,6 @@ use borrow.Author.Needs.{needs}
 use Rattle.spi.proofs.unit.Spi.waits.Statement.{statement}
 use Rattle.spi.proofs.unit.Spi.waits.Tie as tie
 
-stays-master-requires : tie.Need-stays-master-requires
-stays-master-requires c κs = search needs
-
-sub-result : tie.Need-sub-result
-sub-result c = search needs
-
 returns : tie.Need-returns
 unfolding waitsFor
 returns c = search picks
@@ -24,4 +18,4 @@ unfolding waitsFor
 returns-3 c = search picks
 
 pub waits-spec : {M : Type 1} → statement M
-waits-spec = tie.close (tie.spec stays-master-requires sub-result returns returns-2 returns-3)
+waits-spec = tie.close (tie.spec (λ c κs. search needs) (λ c. search needs) returns returns-2 returns-3)

@@ -5,18 +5,9 @@ use Rattle.choice.proofs.Picks.{picks}
 use Rattle.spi.proofs.unit.Spi.write_spsr.Statement.{statement}
 use Rattle.spi.proofs.unit.Spi.write_spsr.Tie as tie
 
-differs-requires : tie.Need-differs-requires
-differs-requires c κs = search needs
-
-under-way-requires : tie.Need-under-way-requires
-under-way-requires c κs = search needs
-
 returns : tie.Need-returns
 unfolding writeSpsr
 returns c = rw (← odd-set (c .before .before .before .before .args .v)) (search picks)
-
-set-spi2x-requires : tie.Need-set-spi2x-requires
-set-spi2x-requires c κs = search needs
 
 returns-2 : tie.Need-returns-2
 unfolding writeSpsr
@@ -29,4 +20,4 @@ returns-3 c = rw (← odd-set (c .before .before .args .v)) (search picks)
 pub write-spsr-spec : {M : Type 1} → statement M
 write-spsr-spec =
     tie.close
-    (tie.spec differs-requires under-way-requires returns set-spi2x-requires returns-2 returns-3)
+    (tie.spec (λ c κs. search needs) (λ c κs. search needs) returns (λ c κs. search needs) returns-2 returns-3)

@@ -33,13 +33,4 @@ returns c = search needs
 pub leads-spec : {M : Type 1} → statement M
 leads-spec =
     tie.close
-    (tie.spec
-    Inv-loop
-    μ-loop
-    loop-holds
-    pause-requires
-    turned-requires
-    add-edge
-    loop-less
-    loop-again
-    returns)
+    (tie.spec Inv-loop μ-loop loop-holds pause-requires turned-requires add-edge loop-less loop-again returns)

@@ -6,9 +6,6 @@ use borrow.Author.Needs.{needs}
 use Rattle.usart.proofs.baud.Clocks.next.Statement.{statement}
 use Rattle.usart.proofs.baud.Clocks.next.Tie as tie
 
-sub-t5 : tie.Need-sub-t5
-sub-t5 c = search needs
-
 returns : tie.Need-returns
 unfolding leftOf
 returns c = (pick-true _ _ _ _ (eq-eqb _ _ (c .if1 .taken)) (refl))
@@ -18,4 +15,4 @@ unfolding leftOf
 returns-2 c = (pick-false _ _ _ _ (ne-eqb _ _ (c .before .if1 .left)) (refl))
 
 pub next-spec : {M : Type 1} → statement M
-next-spec = tie.close (tie.spec sub-t5 returns returns-2)
+next-spec = tie.close (tie.spec (λ c. search needs) returns returns-2)

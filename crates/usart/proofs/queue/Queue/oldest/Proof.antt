@@ -2,24 +2,11 @@ use borrow.Author.Needs.{needs}
 use Rattle.usart.proofs.queue.Queue.oldest.Statement.{statement}
 use Rattle.usart.proofs.queue.Queue.oldest.Tie as tie
 
-enum-told : tie.Need-enum-told
-enum-told c = search needs
-
-enum-known-p : tie.Need-enum-known-p
-enum-known-p c = search needs
-
-enum-known-p-2 : tie.Need-enum-known-p-2
-enum-known-p-2 c = search needs
-
 returns : tie.Need-returns
 returns c = rw (c .enum-told .given .1)
 
-returns-2 : tie.Need-returns-2
-returns-2 c = search needs
-
-returns-3 : tie.Need-returns-3
-returns-3 c = search needs
-
 pub oldest-spec : {M : Type 1} → statement M
 oldest-spec =
-    tie.close (tie.spec enum-told enum-known-p enum-known-p-2 returns returns-2 returns-3)
+    tie.close
+    (tie.spec (λ c. search needs) (λ c. search needs) (λ c. search needs) returns (λ c. search needs)
+    (λ c. search needs))

@@ -2,15 +2,6 @@ use borrow.Author.Needs.{needs}
 use Rattle.usart.proofs.queue.Queue.taken.Statement.{statement}
 use Rattle.usart.proofs.queue.Queue.taken.Tie as tie
 
-enum-told : tie.Need-enum-told
-enum-told c = search needs
-
-enum-told-2 : tie.Need-enum-told-2
-enum-told-2 c = search needs
-
-enum-known-p : tie.Need-enum-known-p
-enum-known-p c = search needs
-
 returns : tie.Need-returns
 returns c = rw (c .enum-told .given .1)
 
@@ -21,4 +12,6 @@ returns-3 : tie.Need-returns-3
 returns-3 c = rw (c .before .p .given .1)
 
 pub taken-spec : {M : Type 1} → statement M
-taken-spec = tie.close (tie.spec enum-told enum-told-2 enum-known-p returns returns-2 returns-3)
+taken-spec =
+    tie.close
+    (tie.spec (λ c. search needs) (λ c. search needs) (λ c. search needs) returns returns-2 returns-3)

@@ -51,14 +51,5 @@ returns-2 c =
 pub hold-spec : {M : Type 1} → statement M
 hold-spec =
     tie.close
-    (tie.spec
-    Inv-loop
-    μ-loop
-    loop-holds
-    rests-requires
-    returns
-    passed-requires
-    sub-left
-    loop-less
-    loop-again
+    (tie.spec Inv-loop μ-loop loop-holds rests-requires returns passed-requires sub-left loop-less loop-again
     returns-2)

@@ -5,9 +5,6 @@ use borrow.Author.Needs.{needs}
 use Rattle.usart.proofs.receiver.Receiver.listened.Statement.{statement}
 use Rattle.usart.proofs.receiver.Receiver.listened.Tie as tie
 
-tick-requires : tie.Need-tick-requires
-tick-requires c κs = search needs
-
 returns : tie.Need-returns
 unfolding listenedOf
 returns c = (pick-true _ _ _ _ (c .before .if1 .taken) (c .tick .ensures))
@@ -17,4 +14,4 @@ unfolding listenedOf
 returns-2 c = (pick-false _ _ _ _ (c .if1 .left) (refl))
 
 pub listened-spec : {M : Type 1} → statement M
-listened-spec = tie.close (tie.spec tick-requires returns returns-2)
+listened-spec = tie.close (tie.spec (λ c κs. search needs) returns returns-2)

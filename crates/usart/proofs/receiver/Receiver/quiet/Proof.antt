@@ -5,9 +5,6 @@ use borrow.Author.Needs.{needs}
 use Rattle.usart.proofs.receiver.Receiver.quiet.Statement.{statement}
 use Rattle.usart.proofs.receiver.Receiver.quiet.Tie as tie
 
-quiet-requires : tie.Need-quiet-requires
-quiet-requires c κs = search needs
-
 returns : tie.Need-returns
 unfolding receiverQuiet
 returns c = pick-true _ _ _ _ (c .before .if1 .taken) (c .quiet .ensures)
@@ -17,4 +14,4 @@ unfolding receiverQuiet
 returns-2 c = pick-false _ _ _ _ (c .if1 .left) refl
 
 pub quiet-spec : {M : Type 1} → statement M
-quiet-spec = tie.close (tie.spec quiet-requires returns returns-2)
+quiet-spec = tie.close (tie.spec (λ c κs. search needs) returns returns-2)

@@ -5,9 +5,6 @@ use borrow.Author.Needs.{needs}
 use Rattle.usart.proofs.receiver.Receiver.rests.Statement.{statement}
 use Rattle.usart.proofs.receiver.Receiver.rests.Tie as tie
 
-rests-requires : tie.Need-rests-requires
-rests-requires c κs = search needs
-
 returns : tie.Need-returns
 unfolding receiverRests
 returns c = pick-true _ _ _ _ (c .before .if1 .taken) (c .rests .ensures)
@@ -17,4 +14,4 @@ unfolding receiverRests
 returns-2 c = pick-false _ _ _ _ (c .if1 .left) refl
 
 pub rests-spec : {M : Type 1} → statement M
-rests-spec = tie.close (tie.spec rests-requires returns returns-2)
+rests-spec = tie.close (tie.spec (λ c κs. search needs) returns returns-2)

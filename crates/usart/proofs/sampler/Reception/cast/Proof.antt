@@ -6,15 +6,9 @@ use borrow.Author.Needs.{needs}
 use Rattle.usart.proofs.sampler.Reception.cast.Statement.{statement}
 use Rattle.usart.proofs.sampler.Reception.cast.Tie as tie
 
-first-vote-requires : tie.Need-first-vote-requires
-first-vote-requires c κs = search needs
-
 returns : tie.Need-returns
 unfolding castOf
 returns c = rw (← c .before .before .first-vote .ensures .0) (pick-true _ _ _ _ (eq-eqb _ _ (c .if1 .taken)) (refl))
-
-add-if2 : tie.Need-add-if2
-add-if2 c = search needs
 
 returns-2 : tie.Need-returns-2
 unfolding castOf
@@ -25,4 +19,4 @@ unfolding castOf
 returns-3 c = rw (← c .before .before .before .before .first-vote .ensures .0) (pick-false _ _ _ _ (ne-eqb _ _ (c .before .before .if1 .left)) ((pick-false _ _ _ _ (ne-eqb _ _ (c .if2 .left)) (refl))))
 
 pub cast-spec : {M : Type 1} → statement M
-cast-spec = tie.close (tie.spec first-vote-requires returns add-if2 returns-2 returns-3)
+cast-spec = tie.close (tie.spec (λ c κs. search needs) returns (λ c. search needs) returns-2 returns-3)

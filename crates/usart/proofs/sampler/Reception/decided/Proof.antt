@@ -14,12 +14,6 @@ returns-2 : tie.Need-returns-2
 unfolding decidedOf
 returns-2 c = (pick-true _ _ _ _ (eq-eqb _ _ (c .before .if1 .taken)) ((pick-false _ _ _ _ (c .if2 .left) (refl))))
 
-word-bits-requires : tie.Need-word-bits-requires
-word-bits-requires c κs = search needs
-
-shifted-requires : tie.Need-shifted-requires
-shifted-requires c κs = search needs
-
 returns-3 : tie.Need-returns-3
 unfolding decidedOf
 returns-3 c = rw (c .shifted .ensures, ← c .before .before .before .word-bits .ensures .0) (pick-false _ _ _ _ (ne-eqb _ _ (c .before .before .before .before .if1 .left)) ((pick-true _ _ _ _ (le-leb _ _ (c .before .if3 .taken)) (refl))))
@@ -30,4 +24,5 @@ returns-4 c = rw (← c .before .before .word-bits .ensures .0) (pick-false _ _ 
 
 pub decided-spec : {M : Type 1} → statement M
 decided-spec =
-    tie.close (tie.spec returns returns-2 word-bits-requires shifted-requires returns-3 returns-4)
+    tie.close
+    (tie.spec returns returns-2 (λ c κs. search needs) (λ c κs. search needs) returns-3 returns-4)

@@ -6,12 +6,6 @@ use borrow.Author.Needs.{needs}
 use Rattle.usart.proofs.sampler.Reception.next_bit.Statement.{statement}
 use Rattle.usart.proofs.sampler.Reception.next_bit.Tie as tie
 
-word-bits-requires : tie.Need-word-bits-requires
-word-bits-requires c κs = search needs
-
-add-t5 : tie.Need-add-t5
-add-t5 c = search needs
-
 returns : tie.Need-returns
 unfolding nextBitOf
 returns c = rw (← c .before .before .before .word-bits .ensures .0) (pick-true _ _ _ _ (le-leb _ _ (c .before .if1 .taken)) (refl))
@@ -21,4 +15,4 @@ unfolding nextBitOf
 returns-2 c = rw (← c .before .before .word-bits .ensures .0) (pick-false _ _ _ _ (lt-leb _ _ (c .if1 .left)) (refl))
 
 pub next-bit-spec : {M : Type 1} → statement M
-next-bit-spec = tie.close (tie.spec word-bits-requires add-t5 returns returns-2)
+next-bit-spec = tie.close (tie.spec (λ c κs. search needs) (λ c. search needs) returns returns-2)

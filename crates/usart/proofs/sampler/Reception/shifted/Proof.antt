@@ -5,12 +5,6 @@ use borrow.Author.Needs.{needs}
 use Rattle.usart.proofs.sampler.Reception.shifted.Statement.{statement}
 use Rattle.usart.proofs.sampler.Reception.shifted.Tie as tie
 
-top-requires : tie.Need-top-requires
-top-requires c κs = search needs
-
-add-self : tie.Need-add-self
-add-self c = search needs
-
 returns : tie.Need-returns
 unfolding shiftedOf
 returns c = rw (← c .top .ensures .0, c .before .if1 .taken)
@@ -20,4 +14,4 @@ unfolding shiftedOf
 returns-2 c = (pick-false _ _ _ _ (c .if1 .left) (refl))
 
 pub shifted-spec : {M : Type 1} → statement M
-shifted-spec = tie.close (tie.spec top-requires add-self returns returns-2)
+shifted-spec = tie.close (tie.spec (λ c κs. search needs) (λ c. search needs) returns returns-2)

@@ -6,21 +6,6 @@ use borrow.Author.Needs.{needs}
 use Rattle.usart.proofs.sampler.Reception.voted.Statement.{statement}
 use Rattle.usart.proofs.sampler.Reception.voted.Tie as tie
 
-majority-requires : tie.Need-majority-requires
-majority-requires c κs = search needs
-
-cast-requires : tie.Need-cast-requires
-cast-requires c κs = search needs
-
-first-vote-requires : tie.Need-first-vote-requires
-first-vote-requires c κs = search needs
-
-add-if1 : tie.Need-add-if1
-add-if1 c = search needs
-
-decided-requires : tie.Need-decided-requires
-decided-requires c κs = search needs
-
 returns : tie.Need-returns
 unfolding votedOf
 returns c = rw (← c .before .before .before .first-vote .ensures .0, ← c .before .before .before .before .cast .ensures, ← c .before .before .before .before .before .majority .ensures) (pick-true _ _ _ _ (eq-eqb _ _ (c .before .if1 .taken)) (c .decided .ensures))
@@ -32,11 +17,5 @@ returns-2 c = rw (← c .before .before .first-vote .ensures .0, ← c .before .
 pub voted-spec : {M : Type 1} → statement M
 voted-spec =
     tie.close
-    (tie.spec
-    majority-requires
-    cast-requires
-    first-vote-requires
-    add-if1
-    decided-requires
-    returns
-    returns-2)
+    (tie.spec (λ c κs. search needs) (λ c κs. search needs) (λ c κs. search needs) (λ c. search needs)
+    (λ c κs. search needs) returns returns-2)

@@ -3,12 +3,6 @@ use borrow.Author.Needs.{needs}
 use Rattle.usart.proofs.sampler.Sampler.counted.Statement.{statement}
 use Rattle.usart.proofs.sampler.Sampler.counted.Tie as tie
 
-enum-known-self : tie.Need-enum-known-self
-enum-known-self c = search needs
-
-enum-known-self-2 : tie.Need-enum-known-self-2
-enum-known-self-2 c = search needs
-
 later-requires : tie.Need-later-requires
 later-requires c κs = receiving-fits _ _ _ _ (c .before .self2 .given .1) (c .before .before .before .pre)
 
@@ -19,5 +13,4 @@ returns-2 : tie.Need-returns-2
 returns-2 c = rw (c .before .before .self2 .given .1, c .later .ensures)
 
 pub counted-spec : {M : Type 1} → statement M
-counted-spec =
-    tie.close (tie.spec enum-known-self enum-known-self-2 later-requires returns returns-2)
+counted-spec = tie.close (tie.spec (λ c. search needs) (λ c. search needs) later-requires returns returns-2)

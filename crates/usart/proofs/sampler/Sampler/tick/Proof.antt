@@ -3,18 +3,6 @@ use borrow.Author.Needs.{needs}
 use Rattle.usart.proofs.sampler.Sampler.tick.Statement.{statement}
 use Rattle.usart.proofs.sampler.Sampler.tick.Tie as tie
 
-enum-known-self : tie.Need-enum-known-self
-enum-known-self c = search needs
-
-idle-requires : tie.Need-idle-requires
-idle-requires c κs = search needs
-
-enum-known-self-2 : tie.Need-enum-known-self-2
-enum-known-self-2 c = search needs
-
-sampled-requires : tie.Need-sampled-requires
-sampled-requires c κs = search needs
-
 returns : tie.Need-returns
 unfolding samplerOf
 returns c = rw (c .before .before .self .given .1) (c .idle .ensures)
@@ -26,4 +14,4 @@ returns-2 c = rw (c .before .before .self2 .given .1) (c .sampled .ensures)
 pub tick-spec : {M : Type 1} → statement M
 tick-spec =
     tie.close
-    (tie.spec enum-known-self idle-requires enum-known-self-2 sampled-requires returns returns-2)
+    (tie.spec (λ c. search needs) (λ c κs. search needs) (λ c. search needs) (λ c κs. search needs) returns returns-2)

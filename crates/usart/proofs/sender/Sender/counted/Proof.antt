@@ -3,12 +3,6 @@ use borrow.Author.Needs.{needs}
 use Rattle.usart.proofs.sender.Sender.counted.Statement.{statement}
 use Rattle.usart.proofs.sender.Sender.counted.Tie as tie
 
-enum-told : tie.Need-enum-told
-enum-told c = search needs
-
-enum-known-s : tie.Need-enum-known-s
-enum-known-s c = search needs
-
 later-requires : tie.Need-later-requires
 later-requires c κs = sending-fits _ _ _ _ _ (c .before .s .given .1) (c .before .before .before .pre)
 
@@ -19,4 +13,4 @@ returns-2 : tie.Need-returns-2
 returns-2 c = rw (c .before .before .s .given .1, c .later .ensures)
 
 pub counted-spec : {M : Type 1} → statement M
-counted-spec = tie.close (tie.spec enum-told enum-known-s later-requires returns returns-2)
+counted-spec = tie.close (tie.spec (λ c. search needs) (λ c. search needs) later-requires returns returns-2)

@@ -8,15 +8,6 @@ use borrow.Author.Needs.{needs}
 use Rattle.usart.proofs.sender.Sender.passed.Statement.{statement}
 use Rattle.usart.proofs.sender.Sender.passed.Tie as tie
 
-quiet-requires : tie.Need-quiet-requires
-quiet-requires c κs = search needs
-
-least-requires : tie.Need-least-requires
-least-requires c κs = search needs
-
-tick-requires : tie.Need-tick-requires
-tick-requires c κs = search needs
-
 returns : tie.Need-returns
 returns c = passed-one _ _ (c .before .before .before .before .before .pre) (c .tick .ensures)
 
@@ -34,4 +25,4 @@ returns-2 c =
 pub passed-spec : {M : Type 1} → statement M
 passed-spec =
     tie.close
-    (tie.spec quiet-requires least-requires tick-requires returns counted-requires returns-2)
+    (tie.spec (λ c κs. search needs) (λ c κs. search needs) (λ c κs. search needs) returns counted-requires returns-2)

@@ -5,24 +5,6 @@ use borrow.Author.Needs.{needs}
 use Rattle.usart.proofs.sender.Sender.quiet.Statement.{statement}
 use Rattle.usart.proofs.sender.Sender.quiet.Tie as tie
 
-enum-told : tie.Need-enum-told
-enum-told c = search needs
-
-vacant-requires : tie.Need-vacant-requires
-vacant-requires c κs = search needs
-
-enum-known-s : tie.Need-enum-known-s
-enum-known-s c = search needs
-
-samples-requires : tie.Need-samples-requires
-samples-requires c κs = search needs
-
-sub-until : tie.Need-sub-until
-sub-until c = search needs
-
-until-requires : tie.Need-until-requires
-until-requires c κs = search needs
-
 returns : tie.Need-returns
 unfolding senderQuiet
 returns c = rw (c .before .before .enum-told .given .1, ← c .before .vacant .ensures) (pick-true _ _ _ _ (c .if1 .taken) refl)
@@ -38,13 +20,5 @@ returns-3 c = rw (c .before .before .before .s .given .1, ← c .before .samples
 pub quiet-spec : {M : Type 1} → statement M
 quiet-spec =
     tie.close
-    (tie.spec
-    enum-told
-    vacant-requires
-    enum-known-s
-    samples-requires
-    sub-until
-    until-requires
-    returns
-    returns-2
-    returns-3)
+    (tie.spec (λ c. search needs) (λ c κs. search needs) (λ c. search needs) (λ c κs. search needs)
+    (λ c. search needs) (λ c κs. search needs) returns returns-2 returns-3)

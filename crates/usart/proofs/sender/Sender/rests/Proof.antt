@@ -5,12 +5,6 @@ use borrow.Author.Needs.{needs}
 use Rattle.usart.proofs.sender.Sender.rests.Statement.{statement}
 use Rattle.usart.proofs.sender.Sender.rests.Tie as tie
 
-vacant-requires : tie.Need-vacant-requires
-vacant-requires c κs = search needs
-
-resting-requires : tie.Need-resting-requires
-resting-requires c κs = search needs
-
 returns : tie.Need-returns
 unfolding senderRests
 returns c = rw (← c .before .before .vacant .ensures) (pick-true _ _ _ _ (c .before .if1 .taken) (c .resting .ensures))
@@ -20,4 +14,4 @@ unfolding senderRests
 returns-2 c = rw (← c .before .vacant .ensures) (pick-false _ _ _ _ (c .if1 .left) refl)
 
 pub rests-spec : {M : Type 1} → statement M
-rests-spec = tie.close (tie.spec vacant-requires resting-requires returns returns-2)
+rests-spec = tie.close (tie.spec (λ c κs. search needs) (λ c κs. search needs) returns returns-2)

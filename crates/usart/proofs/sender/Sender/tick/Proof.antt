@@ -28,47 +28,17 @@ unfolding steppedOf
 at-end f s t txc e n b q =
     sending f s t (movedOf f s txc) e (pick-false _ _ _ _ n (pick-false _ _ _ _ b (ap (movedOf f s) q)))
 
-enum-told : tie.Need-enum-told
-enum-told c = search needs
-
-enum-known-s : tie.Need-enum-known-s
-enum-known-s c = search needs
-
-samples-requires : tie.Need-samples-requires
-samples-requires c κs = search needs
-
-sub-if1 : tie.Need-sub-if1
-sub-if1 c = search needs
-
-add-t9 : tie.Need-add-t9
-add-t9 c = search needs
-
-at-requires : tie.Need-at-requires
-at-requires c κs = search needs
-
 returns : tie.Need-returns
 unfolding steppedOf
 returns c =
     sending _ _ _ _ (c .before .before .before .before .before .before .s .given .1)
     (rw (← c .before .before .before .before .samples .ensures .0) (pick-true _ _ _ _ (lt-ltb _ _ (c .before .before .if1 .taken)) (c .at .ensures)))
 
-last-bit-requires : tie.Need-last-bit-requires
-last-bit-requires c κs = search needs
-
-add-t12 : tie.Need-add-t12
-add-t12 c = search needs
-
-at-requires-2 : tie.Need-at-requires-2
-at-requires-2 c κs = search needs
-
 returns-2 : tie.Need-returns-2
 unfolding steppedOf
 returns-2 c =
     sending _ _ _ _ (c .before .before .before .before .before .before .before .before .before .s .given .1)
     (rw (← c .before .before .before .before .before .before .before .samples .ensures .0, ← c .before .before .before .before .last-bit .ensures) (pick-false _ _ _ _ (le-ltb _ _ (c .before .before .before .before .before .if1 .left)) (pick-true _ _ _ _ (lt-ltb _ _ (c .before .before .if2 .taken)) (c .at2 .ensures))))
-
-moved-requires : tie.Need-moved-requires
-moved-requires c κs = search needs
 
 returns-3 : tie.Need-returns-3
 returns-3 c =
@@ -81,17 +51,6 @@ returns-3 c =
 pub tick-spec : {M : Type 1} → statement M
 tick-spec =
     tie.close
-    (tie.spec
-    enum-told
-    enum-known-s
-    samples-requires
-    sub-if1
-    add-t9
-    at-requires
-    returns
-    last-bit-requires
-    add-t12
-    at-requires-2
-    returns-2
-    moved-requires
-    returns-3)
+    (tie.spec (λ c. search needs) (λ c. search needs) (λ c κs. search needs) (λ c. search needs) (λ c. search needs)
+    (λ c κs. search needs) returns (λ c κs. search needs) (λ c. search needs) (λ c κs. search needs) returns-2
+    (λ c κs. search needs) returns-3)

@@ -5,15 +5,6 @@ use borrow.Author.Needs.{needs}
 use Rattle.usart.proofs.unit.Usart.busy.Statement.{statement}
 use Rattle.usart.proofs.unit.Usart.busy.Tie as tie
 
-vacant-requires : tie.Need-vacant-requires
-vacant-requires c κs = search needs
-
-resting-requires : tie.Need-resting-requires
-resting-requires c κs = search needs
-
-receiving-requires : tie.Need-receiving-requires
-receiving-requires c κs = search needs
-
 returns : tie.Need-returns
 unfolding isBusy
 returns c = rw (← c .before .before .before .before .vacant .ensures, ← c .before .before .resting .ensures) (pick-true _ _ _ _ (c .before .before .before .if1 .taken) ((pick-true _ _ _ _ (c .before .if2 .taken) (c .receiving .ensures))))
@@ -29,4 +20,4 @@ returns-3 c = rw (← c .before .vacant .ensures) (pick-false _ _ _ _ (c .if1 .l
 pub busy-spec : {M : Type 1} → statement M
 busy-spec =
     tie.close
-    (tie.spec vacant-requires resting-requires receiving-requires returns returns-2 returns-3)
+    (tie.spec (λ c κs. search needs) (λ c κs. search needs) (λ c κs. search needs) returns returns-2 returns-3)

@@ -6,12 +6,6 @@ use borrow.Author.Needs.{needs}
 use Rattle.usart.proofs.unit.Usart.cleared.Statement.{statement}
 use Rattle.usart.proofs.unit.Usart.cleared.Tie as tie
 
-acknowledged-requires : tie.Need-acknowledged-requires
-acknowledged-requires c κs = search needs
-
-with-sender-requires : tie.Need-with-sender-requires
-with-sender-requires c κs = search needs
-
 returns : tie.Need-returns
 unfolding txcCleared
 returns c = pick-true _ _ _ _ (eq-eqb _ _ (c .before .before .if1 .taken)) (rw (c .with-sender .ensures, c .before .acknowledged .ensures))
@@ -21,4 +15,4 @@ unfolding txcCleared
 returns-2 c = pick-false _ _ _ _ (ne-eqb _ _ (c .if1 .left)) refl
 
 pub cleared-spec : {M : Type 1} → statement M
-cleared-spec = tie.close (tie.spec acknowledged-requires with-sender-requires returns returns-2)
+cleared-spec = tie.close (tie.spec (λ c κs. search needs) (λ c κs. search needs) returns returns-2)

@@ -5,22 +5,15 @@ use borrow.Author.Needs.{needs}
 use Rattle.usart.proofs.unit.Usart.clock.Statement.{statement}
 use Rattle.usart.proofs.unit.Usart.clock.Tie as tie
 
-ticks-requires : tie.Need-ticks-requires
-ticks-requires c κs = search needs
-
-ticked-requires : tie.Need-ticked-requires
-ticked-requires c κs = search needs
-
 returns : tie.Need-returns
 unfolding clockOf
 returns c = rw (← c .before .before .ticks .ensures) (pick-true _ _ _ _ (c .before .if1 .taken) (c .ticked .ensures))
 
-next-requires : tie.Need-next-requires
-next-requires c κs = search needs
-
 returns-2 : tie.Need-returns-2
 unfolding clockOf
-returns-2 c = rw (c .next .ensures, ← c .before .before .before .before .before .before .ticks .ensures) (pick-false _ _ _ _ (c .before .before .before .before .before .if1 .left) refl)
+returns-2 c = rw (c .next .ensures, ← c .before .before .ticks .ensures) (pick-false _ _ _ _ (c .before .if1 .left) refl)
 
 pub clock-spec : {M : Type 1} → statement M
-clock-spec = tie.close (tie.spec ticks-requires ticked-requires returns next-requires returns-2)
+clock-spec =
+    tie.close
+    (tie.spec (λ c κs. search needs) (λ c κs. search needs) returns (λ c κs. search needs) returns-2)

@@ -9,12 +9,6 @@ returns : tie.Need-returns
 unfolding isDriven
 returns c = (pick-true _ _ _ _ (c .if1 .taken) (refl))
 
-vacant-requires : tie.Need-vacant-requires
-vacant-requires c κs = search needs
-
-resting-requires : tie.Need-resting-requires
-resting-requires c κs = search needs
-
 returns-2 : tie.Need-returns-2
 unfolding isDriven
 returns-2 c = rw (← c .before .before .vacant .ensures, ← c .resting .ensures) (pick-false _ _ _ _ (c .before .before .before .if1 .left) ((pick-true _ _ _ _ (c .before .if2 .taken) (refl))))
@@ -24,4 +18,4 @@ unfolding isDriven
 returns-3 c = rw (← c .before .vacant .ensures) (pick-false _ _ _ _ (c .before .before .if1 .left) ((pick-false _ _ _ _ (c .if2 .left) (refl))))
 
 pub driven-spec : {M : Type 1} → statement M
-driven-spec = tie.close (tie.spec returns vacant-requires resting-requires returns-2 returns-3)
+driven-spec = tie.close (tie.spec returns (λ c κs. search needs) (λ c κs. search needs) returns-2 returns-3)

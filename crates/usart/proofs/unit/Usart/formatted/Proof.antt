@@ -6,12 +6,6 @@ use borrow.Author.Needs.{needs}
 use Rattle.usart.proofs.unit.Usart.formatted.Statement.{statement}
 use Rattle.usart.proofs.unit.Usart.formatted.Tie as tie
 
-settings-requires : tie.Need-settings-requires
-settings-requires c κs = search needs
-
-settings-requires-2 : tie.Need-settings-requires-2
-settings-requires-2 c κs = search needs
-
 returns : tie.Need-returns
 unfolding formattedOf
 returns c = rw (c .before .before .before .if1 .taken, ← c .before .before .settings .ensures, ← c .before .settings2 .ensures, eq-eqb _ _ (c .if2 .taken))
@@ -20,9 +14,6 @@ returns-2 : tie.Need-returns-2
 unfolding formattedOf
 returns-2 c = rw (c .before .before .before .if1 .taken, ← c .before .before .settings .ensures, ← c .before .settings2 .ensures, ne-eqb _ _ (c .if2 .left))
 
-with-format-requires : tie.Need-with-format-requires
-with-format-requires c κs = search needs
-
 returns-3 : tie.Need-returns-3
 unfolding formattedOf
 returns-3 c = rw (c .with-format .ensures) (pick-false _ _ _ _ (c .before .if1 .left) (refl))
@@ -30,10 +21,4 @@ returns-3 c = rw (c .with-format .ensures) (pick-false _ _ _ _ (c .before .if1 .
 pub formatted-spec : {M : Type 1} → statement M
 formatted-spec =
     tie.close
-    (tie.spec
-    settings-requires
-    settings-requires-2
-    returns
-    returns-2
-    with-format-requires
-    returns-3)
+    (tie.spec (λ c κs. search needs) (λ c κs. search needs) returns returns-2 (λ c κs. search needs) returns-3)

@@ -4,18 +4,6 @@ use borrow.Author.Needs.{needs}
 use Rattle.usart.proofs.unit.Usart.hold.Statement.{statement}
 use Rattle.usart.proofs.unit.Usart.hold.Tie as tie
 
-ticks-in-requires : tie.Need-ticks-in-requires
-ticks-in-requires c κs = search needs
-
-passed-requires : tie.Need-passed-requires
-passed-requires c κs = search needs
-
-hold-requires : tie.Need-hold-requires
-hold-requires c κs = search needs
-
-hold-requires-2 : tie.Need-hold-requires-2
-hold-requires-2 c κs = search needs
-
 returns : tie.Need-returns
 returns c =
     let a = c .before .before .before .before .before .before .args in
@@ -23,4 +11,5 @@ returns c =
 
 pub hold-spec : {M : Type 1} → statement M
 hold-spec =
-    tie.close (tie.spec ticks-in-requires passed-requires hold-requires hold-requires-2 returns)
+    tie.close
+    (tie.spec (λ c κs. search needs) (λ c κs. search needs) (λ c κs. search needs) (λ c κs. search needs) returns)

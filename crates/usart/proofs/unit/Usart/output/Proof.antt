@@ -5,18 +5,6 @@ use borrow.Author.Needs.{needs}
 use Rattle.usart.proofs.unit.Usart.output.Statement.{statement}
 use Rattle.usart.proofs.unit.Usart.output.Tie as tie
 
-driven-requires : tie.Need-driven-requires
-driven-requires c κs = search needs
-
-txd-requires : tie.Need-txd-requires
-txd-requires c κs = search needs
-
-digit-requires : tie.Need-digit-requires
-digit-requires c κs = search needs
-
-add-result : tie.Need-add-result
-add-result c = search needs
-
 returns : tie.Need-returns
 unfolding outputOf
 returns c = rw (c .digit .ensures .0, c .before .txd .ensures, ← c .before .before .before .driven .ensures) (pick-true _ _ _ _ (c .before .before .if1 .taken) (refl))
@@ -27,4 +15,6 @@ returns-2 c = rw (← c .before .driven .ensures) (pick-false _ _ _ _ (c .if1 .l
 
 pub output-spec : {M : Type 1} → statement M
 output-spec =
-    tie.close (tie.spec driven-requires txd-requires digit-requires add-result returns returns-2)
+    tie.close
+    (tie.spec (λ c κs. search needs) (λ c κs. search needs) (λ c κs. search needs) (λ c. search needs) returns
+    returns-2)

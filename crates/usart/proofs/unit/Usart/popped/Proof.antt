@@ -2,11 +2,8 @@ use borrow.Author.Needs.{needs}
 use Rattle.usart.proofs.unit.Usart.popped.Statement.{statement}
 use Rattle.usart.proofs.unit.Usart.popped.Tie as tie
 
-taken-requires : tie.Need-taken-requires
-taken-requires c κs = search needs
-
 returns : tie.Need-returns
 returns c = rw (c .taken .ensures)
 
 pub popped-spec : {M : Type 1} → statement M
-popped-spec = tie.close (tie.spec taken-requires returns)
+popped-spec = tie.close (tie.spec (λ c κs. search needs) returns)

@@ -7,18 +7,6 @@ use borrow.Author.Needs.{needs}
 use Rattle.usart.proofs.unit.Usart.quiet.Statement.{statement}
 use Rattle.usart.proofs.unit.Usart.quiet.Tie as tie
 
-ticks-requires : tie.Need-ticks-requires
-ticks-requires c κs = search needs
-
-quiet-requires : tie.Need-quiet-requires
-quiet-requires c κs = search needs
-
-quiet-requires-2 : tie.Need-quiet-requires-2
-quiet-requires-2 c κs = search needs
-
-least-requires : tie.Need-least-requires
-least-requires c κs = search needs
-
 ticks-as-clocks-requires : tie.Need-ticks-as-clocks-requires
 ticks-as-clocks-requires c κs = c .before .before .before .if2 .taken
 
@@ -35,9 +23,6 @@ returns-2 : tie.Need-returns-2
 unfolding quietOf
 returns-2 c = rw (← c .before .before .before .ticks .ensures) (pick-true _ _ _ _ (c .before .before .if1 .taken) (pick-false _ _ _ _ (ne-eqb _ _ (c .if2 .left)) refl))
 
-cast-t9 : tie.Need-cast-t9
-cast-t9 c = search needs
-
 returns-3 : tie.Need-returns-3
 unfolding quietOf
 returns-3 c = rw (← c .before .before .ticks .ensures) (pick-false _ _ _ _ (c .before .if1 .left) refl)
@@ -45,13 +30,5 @@ returns-3 c = rw (← c .before .before .ticks .ensures) (pick-false _ _ _ _ (c 
 pub quiet-spec : {M : Type 1} → statement M
 quiet-spec =
     tie.close
-    (tie.spec
-    ticks-requires
-    quiet-requires
-    quiet-requires-2
-    least-requires
-    ticks-as-clocks-requires
-    returns
-    returns-2
-    cast-t9
-    returns-3)
+    (tie.spec (λ c κs. search needs) (λ c κs. search needs) (λ c κs. search needs) (λ c κs. search needs)
+    ticks-as-clocks-requires returns returns-2 (λ c. search needs) returns-3)

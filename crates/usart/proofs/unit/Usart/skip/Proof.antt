@@ -6,12 +6,6 @@ use borrow.Author.Needs.{needs}
 use Rattle.usart.proofs.unit.Usart.skip.Statement.{statement}
 use Rattle.usart.proofs.unit.Usart.skip.Tie as tie
 
-quiet-requires : tie.Need-quiet-requires
-quiet-requires c κs = search needs
-
-shorter-requires : tie.Need-shorter-requires
-shorter-requires c κs = search needs
-
 returns : tie.Need-returns
 returns c =
     let u = c .before .before .before .before .args .self in
@@ -26,4 +20,4 @@ returns-2 : tie.Need-returns-2
 returns-2 c = rw (c .counted .ensures, c .before .before .before .shorter .ensures, c .before .before .before .before .quiet .ensures)
 
 pub skip-spec : {M : Type 1} → statement M
-skip-spec = tie.close (tie.spec quiet-requires shorter-requires returns counted-requires returns-2)
+skip-spec = tie.close (tie.spec (λ c κs. search needs) (λ c κs. search needs) returns counted-requires returns-2)

@@ -5,15 +5,6 @@ use borrow.Author.Needs.{needs}
 use Rattle.usart.proofs.unit.Usart.take_vector.Statement.{statement}
 use Rattle.usart.proofs.unit.Usart.take_vector.Tie as tie
 
-txc-requested-requires : tie.Need-txc-requested-requires
-txc-requested-requires c κs = search needs
-
-acknowledged-requires : tie.Need-acknowledged-requires
-acknowledged-requires c κs = search needs
-
-with-sender-requires : tie.Need-with-sender-requires
-with-sender-requires c κs = search needs
-
 returns : tie.Need-returns
 unfolding vectorOf
 returns c = pick-true _ _ _ _ (sym (c .before .before .before .txc-requested .ensures) ∙ c .before .before .if1 .taken) (rw (c .with-sender .ensures, c .before .acknowledged .ensures))
@@ -25,4 +16,4 @@ returns-2 c = pick-false _ _ _ _ (sym (c .before .txc-requested .ensures) ∙ c 
 pub take-vector-spec : {M : Type 1} → statement M
 take-vector-spec =
     tie.close
-    (tie.spec txc-requested-requires acknowledged-requires with-sender-requires returns returns-2)
+    (tie.spec (λ c κs. search needs) (λ c κs. search needs) (λ c κs. search needs) returns returns-2)

@@ -5,19 +5,13 @@ use borrow.Author.Needs.{needs}
 use Rattle.usart.proofs.unit.Usart.timed.Statement.{statement}
 use Rattle.usart.proofs.unit.Usart.timed.Tie as tie
 
-busy-requires : tie.Need-busy-requires
-busy-requires c κs = search needs
-
 returns : tie.Need-returns
 unfolding timedOf
 returns c = rw (← c .before .busy .ensures) (pick-true _ _ _ _ (c .if1 .taken) (refl))
-
-with-baud-requires : tie.Need-with-baud-requires
-with-baud-requires c κs = search needs
 
 returns-2 : tie.Need-returns-2
 unfolding timedOf
 returns-2 c = rw (c .with-baud .ensures, ← c .before .before .busy .ensures) (pick-false _ _ _ _ (c .before .if1 .left) (refl))
 
 pub timed-spec : {M : Type 1} → statement M
-timed-spec = tie.close (tie.spec busy-requires returns with-baud-requires returns-2)
+timed-spec = tie.close (tie.spec (λ c κs. search needs) returns (λ c κs. search needs) returns-2)

@@ -5,27 +5,6 @@ use borrow.Author.Needs.{needs}
 use Rattle.usart.proofs.unit.Usart.transmitted.Statement.{statement}
 use Rattle.usart.proofs.unit.Usart.transmitted.Tie as tie
 
-digit-requires : tie.Need-digit-requires
-digit-requires c κs = search needs
-
-cast-masked : tie.Need-cast-masked
-cast-masked c = search needs
-
-mul-masked : tie.Need-mul-masked
-mul-masked c = search needs
-
-add-masked : tie.Need-add-masked
-add-masked c = search needs
-
-masked-requires : tie.Need-masked-requires
-masked-requires c κs = search needs
-
-filled-requires : tie.Need-filled-requires
-filled-requires c κs = search needs
-
-with-sender-requires : tie.Need-with-sender-requires
-with-sender-requires c κs = search needs
-
 returns : tie.Need-returns
 unfolding transmittedOf
 returns c = rw (c .with-sender .ensures, c .before .filled .ensures, c .before .before .masked .ensures .0, c .before .before .before .digit .ensures .0) (pick-true _ _ _ _ (c .before .before .before .before .if1 .taken) (refl))
@@ -37,13 +16,5 @@ returns-2 c = (pick-false _ _ _ _ (c .if1 .left) (refl))
 pub transmitted-spec : {M : Type 1} → statement M
 transmitted-spec =
     tie.close
-    (tie.spec
-    digit-requires
-    cast-masked
-    mul-masked
-    add-masked
-    masked-requires
-    filled-requires
-    with-sender-requires
-    returns
-    returns-2)
+    (tie.spec (λ c κs. search needs) (λ c. search needs) (λ c. search needs) (λ c. search needs)
+    (λ c κs. search needs) (λ c κs. search needs) (λ c κs. search needs) returns returns-2)

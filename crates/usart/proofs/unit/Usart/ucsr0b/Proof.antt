@@ -2,103 +2,14 @@ use borrow.Author.Needs.{needs}
 use Rattle.usart.proofs.unit.Usart.ucsr0b.Statement.{statement}
 use Rattle.usart.proofs.unit.Usart.ucsr0b.Tie as tie
 
-oldest-requires : tie.Need-oldest-requires
-oldest-requires c κs = search needs
-
-digit-requires : tie.Need-digit-requires
-digit-requires c κs = search needs
-
-mul-result : tie.Need-mul-result
-mul-result c = search needs
-
-digit-requires-2 : tie.Need-digit-requires-2
-digit-requires-2 c κs = search needs
-
-mul-result-2 : tie.Need-mul-result-2
-mul-result-2 c = search needs
-
-add-result : tie.Need-add-result
-add-result c = search needs
-
-digit-requires-3 : tie.Need-digit-requires-3
-digit-requires-3 c κs = search needs
-
-mul-result-3 : tie.Need-mul-result-3
-mul-result-3 c = search needs
-
-add-result-2 : tie.Need-add-result-2
-add-result-2 c = search needs
-
-digit-requires-4 : tie.Need-digit-requires-4
-digit-requires-4 c κs = search needs
-
-mul-result-4 : tie.Need-mul-result-4
-mul-result-4 c = search needs
-
-add-result-3 : tie.Need-add-result-3
-add-result-3 c = search needs
-
-digit-requires-5 : tie.Need-digit-requires-5
-digit-requires-5 c κs = search needs
-
-mul-result-5 : tie.Need-mul-result-5
-mul-result-5 c = search needs
-
-add-result-4 : tie.Need-add-result-4
-add-result-4 c = search needs
-
-size-code-requires : tie.Need-size-code-requires
-size-code-requires c κs = search needs
-
-mul-result-6 : tie.Need-mul-result-6
-mul-result-6 c = search needs
-
-add-result-5 : tie.Need-add-result-5
-add-result-5 c = search needs
-
-digit-requires-6 : tie.Need-digit-requires-6
-digit-requires-6 c κs = search needs
-
-mul-result-7 : tie.Need-mul-result-7
-mul-result-7 c = search needs
-
-add-result-6 : tie.Need-add-result-6
-add-result-6 c = search needs
-
-digit-requires-7 : tie.Need-digit-requires-7
-digit-requires-7 c κs = search needs
-
-add-result-7 : tie.Need-add-result-7
-add-result-7 c = search needs
-
 returns : tie.Need-returns
 returns c = simp (c .digit7 .ensures .0, c .before .digit6 .ensures .0, c .before .before .before .size-code .ensures .0, c .before .before .before .before .digit5 .ensures .0, c .before .before .before .before .before .digit4 .ensures .0, c .before .before .before .before .before .before .digit3 .ensures .0, c .before .before .before .before .before .before .before .digit2 .ensures .0, c .before .before .before .before .before .before .before .before .digit .ensures .0, c .before .before .before .before .before .before .before .before .before .oldest .ensures)
 
 pub ucsr0b-spec : {M : Type 1} → statement M
 ucsr0b-spec =
     tie.close
-    (tie.spec
-    oldest-requires
-    digit-requires
-    mul-result
-    digit-requires-2
-    mul-result-2
-    add-result
-    digit-requires-3
-    mul-result-3
-    add-result-2
-    digit-requires-4
-    mul-result-4
-    add-result-3
-    digit-requires-5
-    mul-result-5
-    add-result-4
-    size-code-requires
-    mul-result-6
-    add-result-5
-    digit-requires-6
-    mul-result-7
-    add-result-6
-    digit-requires-7
-    add-result-7
-    returns)
+    (tie.spec (λ c κs. search needs) (λ c κs. search needs) (λ c. search needs) (λ c κs. search needs)
+    (λ c. search needs) (λ c. search needs) (λ c κs. search needs) (λ c. search needs) (λ c. search needs)
+    (λ c κs. search needs) (λ c. search needs) (λ c. search needs) (λ c κs. search needs) (λ c. search needs)
+    (λ c. search needs) (λ c κs. search needs) (λ c. search needs) (λ c. search needs) (λ c κs. search needs)
+    (λ c. search needs) (λ c. search needs) (λ c κs. search needs) (λ c. search needs) returns)

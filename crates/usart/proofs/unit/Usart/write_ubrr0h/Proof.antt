@@ -10,18 +10,11 @@ returns : tie.Need-returns
 unfolding writeH
 returns c = (pick-true _ _ _ _ (le-leb _ _ (c .if1 .taken)) (refl))
 
-mul-u : tie.Need-mul-u
-mul-u c = search needs
-
-add-u : tie.Need-add-u
-add-u c = search needs
-
-timed-requires : tie.Need-timed-requires
-timed-requires c κs = search needs
-
 returns-2 : tie.Need-returns-2
 unfolding writeH
 returns-2 c = (pick-false _ _ _ _ (lt-leb _ _ (c .before .before .before .if1 .left)) (c .timed .ensures))
 
 pub write-ubrr0h-spec : {M : Type 1} → statement M
-write-ubrr0h-spec = tie.close (tie.spec returns mul-u add-u timed-requires returns-2)
+write-ubrr0h-spec =
+    tie.close
+    (tie.spec returns (λ c. search needs) (λ c. search needs) (λ c κs. search needs) returns-2)

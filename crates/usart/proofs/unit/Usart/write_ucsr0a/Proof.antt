@@ -10,19 +10,11 @@ returns : tie.Need-returns
 unfolding writeA
 returns c = (pick-true _ _ _ _ (eq-eqb _ _ (c .if1 .taken)) (refl))
 
-cleared-requires : tie.Need-cleared-requires
-cleared-requires c κs = search needs
-
-busy-requires : tie.Need-busy-requires
-busy-requires c κs = search needs
-
-formatted-requires : tie.Need-formatted-requires
-formatted-requires c κs = search needs
-
 returns-2 : tie.Need-returns-2
 unfolding writeA
 returns-2 c = rw (c .formatted .ensures, c .before .busy .ensures, c .before .before .cleared .ensures) (pick-false _ _ _ _ (ne-eqb _ _ (c .before .before .before .before .if1 .left)) (refl))
 
 pub write-ucsr0a-spec : {M : Type 1} → statement M
 write-ucsr0a-spec =
-    tie.close (tie.spec returns cleared-requires busy-requires formatted-requires returns-2)
+    tie.close
+    (tie.spec returns (λ c κs. search needs) (λ c κs. search needs) (λ c κs. search needs) returns-2)

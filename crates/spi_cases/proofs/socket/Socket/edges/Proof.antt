@@ -1,7 +1,7 @@
 use Prim.Native.Nat.{_≤_, _-_}
 use borrow.Author.Needs.{needs}
-use Rattle.spi_cases.proofs.bench.Bench.edges.Statement.{statement}
-use Rattle.spi_cases.proofs.bench.Bench.edges.Tie as tie
+use Rattle.spi_cases.proofs.socket.Socket.edges.Statement.{statement}
+use Rattle.spi_cases.proofs.socket.Socket.edges.Tie as tie
 
 abbrev Inv-loop : tie.InvT-loop
 Inv-loop n b₀ counter₀ b counter = counter ≤ n
@@ -28,6 +28,4 @@ returns : tie.Need-returns Inv-loop μ-loop
 returns c = search needs
 
 pub edges-spec : {M : Type 1} → statement M
-edges-spec =
-    tie.close
-    (tie.spec Inv-loop μ-loop loop-holds edge-requires add-counter loop-less loop-again returns)
+edges-spec = tie.close (tie.spec Inv-loop μ-loop loop-holds edge-requires add-counter loop-less loop-again returns)

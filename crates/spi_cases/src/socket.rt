@@ -3,7 +3,7 @@ use spi::Levels;
 use spi::Register;
 use spi::Spi;
 
-pub struct Bench {
+pub struct Socket {
     pub spi: Spi,
     pub pins: Levels,
     // Clocks that began with SPIF clear.
@@ -22,7 +22,7 @@ fn spif(s: Spi) -> bool {
     s.read(Register::Spsr).value / 128 == 1
 }
 
-impl Bench {
+impl Socket {
     pub(crate) fn spif(self) -> bool {
         spif(self.spi)
     }
@@ -31,35 +31,27 @@ impl Bench {
         self.spi.output(self.pins.ss)
     }
 
-    pub(crate) fn with_spi(self, s: Spi) -> Bench {
-        let p = self.pins;
-        Bench {
-            spi: s,
-            pins: p,
-            quiet: self.quiet,
-        }
+    pub(crate) fn with_spi(mut self, s: Spi) -> Socket {
+        self.spi = s;
+        self
     }
 
-    pub(crate) fn with_pins(self, p: Levels) -> Bench {
-        let s = self.spi;
-        Bench {
-            spi: s,
-            pins: p,
-            quiet: self.quiet,
-        }
+    pub(crate) fn with_pins(mut self, p: Levels) -> Socket {
+        self.pins = p;
+        self
     }
 
-    pub(crate) fn clock(self) -> Bench {
+    pub(crate) fn clock(self) -> Socket {
         let s = self.spi;
         let p = self.pins;
-        Bench {
+        Socket {
             spi: s.clock(p),
             pins: p,
             quiet: counted(self.quiet, !spif(s)),
         }
     }
 
-    pub(crate) fn clocks(self, n: u16) -> Bench {
+    pub(crate) fn clocks(self, n: u16) -> Socket {
         let mut b = self;
         for _ in 0..n {
             b = b.clock();
@@ -68,18 +60,13 @@ impl Bench {
     }
 
     // The level on SCK turned, and a clock.
-    pub(crate) fn edge(self) -> Bench {
-        let p = self.pins;
-        let turned = Levels {
-            miso: p.miso,
-            mosi: p.mosi,
-            sck: !p.sck,
-            ss: p.ss,
-        };
-        self.with_pins(turned).clock()
+    pub(crate) fn edge(mut self) -> Socket {
+        let turned = !self.pins.sck;
+        self.pins.sck = turned;
+        self.clock()
     }
 
-    pub(crate) fn edges(self, n: u16) -> Bench {
+    pub(crate) fn edges(self, n: u16) -> Socket {
         let mut b = self;
         for _ in 0..n {
             b = b.edge();
