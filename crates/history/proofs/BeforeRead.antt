@@ -15,7 +15,7 @@ use Rattle.device.specs.Address.{placeOf}
 use Rattle.device.specs.declared.unit.Device.{Device}
 use Rattle.record.specs.Codec.{eqList, recordOf, decodeOf}
 use Rattle.record.specs.Codes.{flagOf}
-use Rattle.record.specs.Parts.{bufferOf, shifterOf, samplerOf, placesOf}
+use Rattle.record.specs.Parts.{bufferFrom, shifterFrom, samplerFrom, placesFrom}
 use Rattle.record.specs.Ranges.{disabledFits, enabledFits, dueFits, inRange}
 use Rattle.warpmagpie.specs.Calls.{readOn}
 use Rattle.history.specs.Call.{recordAfter, read}
@@ -41,10 +41,10 @@ twoHeld = record {
 
 -- just before the read: the first frame's
 pub seen-before : seenBy (recordOf twoHeld) ≡ record { value = 0x55; rxb8 = 1; fe = 0; dor = 0; upe = 0 }
-unfolding twoHeld decodeOf recordOf eqList inRange disabledFits enabledFits dueFits flagOf bufferOf shifterOf samplerOf placesOf sizeOf parityOf divisorNumber readOn placeOf
+unfolding twoHeld decodeOf recordOf eqList inRange disabledFits enabledFits dueFits flagOf bufferFrom shifterFrom samplerFrom placesFrom sizeOf parityOf divisorNumber readOn placeOf
 seen-before = refl
 
 -- after it: the next one's
 pub seen-after : seenBy (recordAfter (recordOf twoHeld) (read 0xC6)) ≡ record { value = 0xAA; rxb8 = 0; fe = 1; dor = 1; upe = 1 }
-unfolding twoHeld decodeOf recordOf eqList inRange disabledFits enabledFits dueFits flagOf bufferOf shifterOf samplerOf placesOf sizeOf parityOf divisorNumber readOn placeOf
+unfolding twoHeld decodeOf recordOf eqList inRange disabledFits enabledFits dueFits flagOf bufferFrom shifterFrom samplerFrom placesFrom sizeOf parityOf divisorNumber readOn placeOf
 seen-after = refl

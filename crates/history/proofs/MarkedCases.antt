@@ -26,7 +26,7 @@ use Rattle.usart.specs.declared.unit.Usart.{Usart}
 use Rattle.usart.proofs.Cases.{m8 as m8-unit}
 use Rattle.usart.proofs.OneBit.{bit-lasts}
 use Rattle.spi.specs.Unit.{outputOf as spiOutput}
-use Rattle.spi.specs.Clock.{steppedOf as spiStepped}
+use Rattle.spi.specs.Clock.{byModeOf}
 use Rattle.spi.proofs.Transfers.{m7}
 use Rattle.device.specs.Address.{placeOf}
 use Rattle.device.specs.Run.{ranOf}
@@ -66,7 +66,7 @@ unfolding sending unitSending placeOf enabledOf isBusy formattedOf sizeOf transm
 started v = refl
 
 m8 : M8
-unfolding sending unitSending placeOf enabledOf isBusy formattedOf sizeOf transmittedOf spiStepped spiOutput
+unfolding sending unitSending placeOf enabledOf isBusy formattedOf sizeOf transmittedOf byModeOf spiOutput
 m8 v =
     let u = m8-unit v in
     (ap (λ (x : ℕ). x + 0) (u .start), (u .full, (status-unit 5 (sending v) 1 ∙ ap (λ (x : Usart). unitBits 5 x 1) (started v) ∙ u .udre, status-unit 6 (sending v) 161 ∙ ap (λ (x : Usart). unitBits 6 x 161) (started v) ∙ u .txc)))
@@ -78,7 +78,7 @@ m9 = (
 )
 
 m10 : M10
-unfolding overrun heard listening lineFrom fourFrames ranOf placeOf leftOf steppedOf listenedOf enabledOf isBusy serialClock formattedOf txcCleared writeA sizeOf frameBit lineLevel spiStepped sumOfBits idleOf castOf nextBitOf shiftedOf decidedOf votedOf sampledOf samplerOf parityError
+unfolding overrun heard listening lineFrom fourFrames ranOf placeOf leftOf steppedOf listenedOf enabledOf isBusy serialClock formattedOf txcCleared writeA sizeOf frameBit lineLevel byModeOf sumOfBits idleOf castOf nextBitOf shiftedOf decidedOf votedOf sampledOf samplerOf parityError
 m10 = refl
 
 pub marked : Each cases

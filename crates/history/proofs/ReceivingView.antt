@@ -30,13 +30,13 @@ use Rattle.device.proofs.SerialLaws.{data-address, levels-serial, writes-are, r
 use Rattle.record.specs.Codec.{decodeOf}
 use Rattle.record.specs.declared.codec.Decoded.the-variants.{Accepted}
 use Rattle.warpmagpie.specs.Calls.{readValue}
-use Rattle.history.specs.Call.{Call, reset, write, read, vector, pass, effect, recordAfter, Throughout, usartOf, OnlyDataCall, rxdOf}
+use Rattle.history.specs.Call.{Call, reset, write, read, vector, pass, effect, recordAfter, Throughout, usartOf, OnlyDataCall, rxdLevels}
 use Rattle.history.specs.Receiving.{Free, seenBy, takenBy, readsOf, entriesOf}
 use Rattle.history.proofs.StepLaws.{write-on, read-on}
 use Rattle.history.proofs.ViewLaws.{eventsOf, viewOf, events-are, Acts, usart-is, view}
 
 -- only clocks show levels
-pub rxd-view : (s : List ℕ) (cs : List Call) → Throughout Acts s cs → rxdOf s cs ≡ levelsOf (viewOf s cs)
+pub rxd-view : (s : List ℕ) (cs : List Call) → Throughout Acts s cs → rxdLevels s cs ≡ levelsOf (viewOf s cs)
 rxd-view =
     view (λ j s c. map rxdIn (effect s c .levels)) (λ j u es. levelsOf es) (λ j u. refl) (λ j u es fs. levels-append es fs)
     (λ j s c a. events-are (λ ls es. map rxdIn ls ≡ levelsOf es) (λ ls. sym (levels-serial ls)) (λ r v. refl) (λ r. refl) refl s c) 0

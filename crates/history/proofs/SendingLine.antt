@@ -29,12 +29,12 @@ use Rattle.record.specs.Codec.{decodeOf}
 use Rattle.record.specs.declared.codec.Decoded.the-variants.{Accepted}
 use Rattle.record.proofs.Round.{decode-valid}
 use Rattle.history.specs.Call.{Call, reset, write, read, vector, pass, effect, finalRecord, Throughout, deviceIn, deviceOf, usartOf}
-use Rattle.history.specs.Sending.{MaySend, acceptedBy, takenOf, txdOf}
+use Rattle.history.specs.Sending.{MaySend, acceptedBy, takenOf, txdLevels}
 use Rattle.history.proofs.ViewLaws.{eventsOf, viewOf, Acts, usart-is, all-act, view, final-view}
 use Rattle.history.proofs.ReceivingView.{ucsr0a-is, ucsr0b-is, only-view}
 
 -- only clocks show outputs
-txd-view : (s : List ℕ) (cs : List Call) → Throughout Acts s cs → txdOf s cs ≡ outputsAt (usartOf s) (viewOf s cs)
+txd-view : (s : List ℕ) (cs : List Call) → Throughout Acts s cs → txdLevels s cs ≡ outputsAt (usartOf s) (viewOf s cs)
 txd-view = view (λ j s c. map txdBits (effect s c .outputs)) (λ j. outputsAt) (λ j u. refl) (λ j. outputs-append) (λ j s c a. a .txd) 0
 
 -- what a write of UDR0 gives the buffer
@@ -70,19 +70,19 @@ taken-view =
     (λ j u es fs. taken-append j u es fs ∙ ap (λ (n : ℕ). takenIn j u es ++ takenIn (j + n) (finalOf u es) fs) (outputs-length u es))
     (λ j s c a. taken-by j s (a .device) (a .valid) c ∙ ap (λ (u : Usart). takenIn j u (eventsOf s c)) (sym (usart-is s (a .device) (a .valid)))) 0
 
-pub sends : (d : Device) (s : List ℕ) (cs : List Call) → MaySend d s cs → Sends (d .usart) (takenOf s cs) (txdOf s cs) (usartOf (finalRecord s cs) .sender .buffer)
+pub sends : (d : Device) (s : List ℕ) (cs : List Call) → MaySend d s cs → Sends (d .usart) (takenOf s cs) (txdLevels s cs) (usartOf (finalRecord s cs) .sender .buffer)
 sends d s cs m =
     let same = ap deviceIn (m .valid) in
-    subst (λ (x : Device). Sends (x .usart) (takenOf s cs) (txdOf s cs) (usartOf (finalRecord s cs) .sender .buffer)) same
+    subst (λ (x : Device). Sends (x .usart) (takenOf s cs) (txdLevels s cs) (usartOf (finalRecord s cs) .sender .buffer)) same
     (sent (subst (λ (x : Device). MaySend x s cs) (sym same) m))
   where
-    sent : MaySend (deviceOf s) s cs → Sends (usartOf s) (takenOf s cs) (txdOf s cs) (usartOf (finalRecord s cs) .sender .buffer)
+    sent : MaySend (deviceOf s) s cs → Sends (usartOf s) (takenOf s cs) (txdLevels s cs) (usartOf (finalRecord s cs) .sender .buffer)
     sent m =
         let u = usartOf s in
         let es = viewOf s cs in
         let a = all-act s (deviceOf s) cs (m .valid) (m .bytes) (m .onlyData) in
         let r : Sends u (takenIn 0 u es) (outputsAt u es) (finalOf u es .sender .buffer) = sends-at u es (record {
-          atRest = m .atRest;
+          ready = m .ready;
           buffer = decode-valid s (deviceOf s) (m .valid) .usart .sender .buffer;
           onlyData = only-view s cs a;
         }) in

@@ -24,7 +24,7 @@ use Rattle.record.specs.declared.codec.Decoded.{Decoded}
 use Rattle.record.specs.declared.codec.Decoded.the-variants.{Accepted}
 use Rattle.record.proofs.Round.{decode-record, decode-valid, decode-length}
 use Rattle.warpmagpie.specs.Calls.{kept, keptByRead, resetOn, writeOn, readOn, vectorOn, runOn, outputsOn}
-use Rattle.history.specs.Call.{Passing, run, query, Call, reset, write, read, vector, pass, Effect, still, passed, effect, recordAfter, ByteCall, Bytes}
+use Rattle.history.specs.Call.{Passing, run, query, Call, reset, write, read, vector, pass, Effect, noClocks, passed, effect, recordAfter, ByteCall, Bytes}
 
 -- a call that comes to w leaves the record of the device that w leaves
 kept-is : (s : List ℕ) (d : Device) (w : Written) → decodeOf s ≡ Accepted d → Valid (settled d w) → decodeOf (kept s w) ≡ Accepted (settled d w)
@@ -72,7 +72,7 @@ module _ (s : List ℕ) (d : Device) (h : decodeOf s ≡ Accepted d) where
   valid = decode-valid s d h
 
   -- a call that passes no clock, and one that has run d over ls
-  none-passed : (n : ℕ) → Passes d (still n s)
+  none-passed : (n : ℕ) → Passes d (noClocks n s)
   unfolding ranOf outputsOf
   none-passed n = record { after = h; outputs = refl }
 

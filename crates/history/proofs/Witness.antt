@@ -27,7 +27,7 @@ use Rattle.usart.specs.declared.sender.Buffer.the-variants.{Vacant}
 use Rattle.usart.specs.declared.sender.ShiftRegister.the-variants.{Resting}
 use Rattle.usart.proofs.ClosedLists.{bool-eqb, shown, shown-shows, room, free}
 use Rattle.spi.specs.Unit.{resetSpi}
-use Rattle.spi.specs.Clock.{masterOf, steppedOf as spiStepped}
+use Rattle.spi.specs.Clock.{masterOf, byModeOf}
 use Rattle.spi.specs.Control.{divisorNumber, isModeFault}
 use Rattle.spi.specs.Means.{differs}
 use Rattle.spi.specs.Register.{writeSpcr, loadedOf, vectorOf as spiVectorOf}
@@ -43,13 +43,13 @@ use Rattle.device.specs.Serial.{vectorsAt}
 use Rattle.device.specs.declared.unit.Device.{Device}
 use Rattle.record.specs.Codec.{eqList, recordOf, decodeOf}
 use Rattle.record.specs.Codes.{flagOf}
-use Rattle.record.specs.Parts.{bufferOf, shifterOf, samplerOf as samplerIn, placesOf}
+use Rattle.record.specs.Parts.{bufferFrom, shifterFrom, samplerFrom, placesFrom}
 use Rattle.record.specs.Ranges.{isUndecided, disabledFits, enabledFits, dueFits, inRange}
 use Rattle.record.specs.declared.codec.Decoded.the-variants.{Accepted}
 use Rattle.warpmagpie.specs.Calls.{writeOn, readOn, vectorOn, runOn}
-use Rattle.history.specs.Call.{run, Call, write, read, vector, pass, report, finalRecord, Bytes, usartOf, OnlyData, rxdOf}
+use Rattle.history.specs.Call.{run, Call, write, read, vector, pass, report, finalRecord, Bytes, usartOf, OnlyData, rxdLevels}
 use Rattle.history.specs.Receiving.{Hears, readsOf, entriesOf}
-use Rattle.history.specs.Sending.{MaySend, takenOf, txdOf}
+use Rattle.history.specs.Sending.{MaySend, takenOf, txdLevels}
 use Rattle.history.specs.Serial.{serialParts, Alike, Agree}
 use Rattle.history.proofs.ClosedHistories.{throughout, only, only-all, roomy, roomy-all}
 use Rattle.history.proofs.ReceivingLine.{receives}
@@ -125,11 +125,11 @@ record Found (u2x : Bool) (s : List ℕ) : Type 0 where
   valid : decodeOf s ≡ Accepted (start u2x)
   only : throughout only s (calls u2x) ≡ true
   roomy : throughout roomy s (calls u2x) ≡ true
-  line : LineOn (813 * scale u2x) 100 (frames u2x) (start u2x .usart .format) 0 (rxdOf s (calls u2x))
+  line : LineOn (813 * scale u2x) 100 (frames u2x) (start u2x .usart .format) 0 (rxdLevels s (calls u2x))
   same : serialParts s (calls u2x) ≡ serialParts s (quiet u2x)
 
 found : (u2x : Bool) → Found u2x (recordOf (start u2x))
-unfolding throughout only roomy start frames level line blank calls quiet shown free room bool-eqb lineLevel frameBit sumOfBits leftOf steppedOf idleOf castOf nextBitOf shiftedOf decidedOf votedOf sampledOf samplerOf listenedOf isBusy clockOf sizeOf parityOf formattedOf writeC isReservedC sizedC timedOf transmittedOf serialVectorOf parityError placeOf ranOf areLevels vectorOf vectorsAt spiStepped masterOf divisorNumber isModeFault writeSpcr loadedOf spiVectorOf isUnderWay firstOut nextEdge edgedOf differs isRequested isSampling isPutting edgeOf outBit shiftedIn decodeOf recordOf eqList inRange isUndecided disabledFits enabledFits dueFits flagOf bufferOf shifterOf samplerIn placesOf writeOn readOn vectorOn runOn
+unfolding throughout only roomy start frames level line blank calls quiet shown free room bool-eqb lineLevel frameBit sumOfBits leftOf steppedOf idleOf castOf nextBitOf shiftedOf decidedOf votedOf sampledOf samplerOf listenedOf isBusy clockOf sizeOf parityOf formattedOf writeC isReservedC sizedC timedOf transmittedOf serialVectorOf parityError placeOf ranOf areLevels vectorOf vectorsAt byModeOf masterOf divisorNumber isModeFault writeSpcr loadedOf spiVectorOf isUnderWay firstOut nextEdge edgedOf differs isRequested isSampling isPutting edgeOf outBit shiftedIn decodeOf recordOf eqList inRange isUndecided disabledFits enabledFits dueFits flagOf bufferFrom shifterFrom samplerFrom placesFrom writeOn readOn vectorOn runOn
 found true = record {
   valid = refl;
   only = refl;
@@ -140,7 +140,7 @@ found true = record {
     within = (lit≤ tt, lit≤ tt);
     fits = (lit< tt, (lit< tt, tt));
     spaced = (lit≤ tt, (tt, tt));
-    shows = shown-shows (level true) 0 (rxdOf (recordOf (start true)) (calls true)) refl;
+    shows = shown-shows (level true) 0 (rxdLevels (recordOf (start true)) (calls true)) refl;
     ended = lit≤ tt;
   };
   same = refl;
@@ -155,7 +155,7 @@ found false = record {
     within = (lit≤ tt, lit≤ tt);
     fits = (lit< tt, (lit< tt, tt));
     spaced = (lit≤ tt, (tt, tt));
-    shows = shown-shows (level false) 0 (rxdOf (recordOf (start false)) (calls false)) refl;
+    shows = shown-shows (level false) 0 (rxdLevels (recordOf (start false)) (calls false)) refl;
     ended = lit≤ tt;
   };
   same = refl;
@@ -189,10 +189,10 @@ witnessed u2x = receives (813 * scale u2x) 100 (frames u2x) (start u2x) (recordO
 pub sender-witness : (u2x : Bool) → MaySend (start u2x) (recordOf (start u2x)) (calls u2x)
 unfolding start
 sender-witness u2x =
-    record { valid = found u2x .valid; atRest = record { enabled = refl; resting = refl }; bytes = bytes u2x; onlyData = onlyData u2x }
+    record { valid = found u2x .valid; ready = record { enabled = refl; resting = refl }; bytes = bytes u2x; onlyData = onlyData u2x }
 
 pub sent : (u2x : Bool)
-    → Sends (start u2x .usart) (takenOf (recordOf (start u2x)) (calls u2x)) (txdOf (recordOf (start u2x)) (calls u2x))
+    → Sends (start u2x .usart) (takenOf (recordOf (start u2x)) (calls u2x)) (txdLevels (recordOf (start u2x)) (calls u2x))
     (usartOf (finalRecord (recordOf (start u2x)) (calls u2x)) .sender .buffer)
 sent u2x = sends (start u2x) (recordOf (start u2x)) (calls u2x) (sender-witness u2x)
 

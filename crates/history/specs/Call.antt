@@ -43,20 +43,20 @@ pub record Effect : Type 0 where
   pub outputs : List ℕ
 
 -- no clock passed
-abbrev pub still : ℕ → List ℕ → Effect
-still n s = record { answer = n; after = s; levels = []; outputs = [] }
+abbrev pub noClocks : ℕ → List ℕ → Effect
+noClocks n s = record { answer = n; after = s; levels = []; outputs = [] }
 
 -- a clock for each level byte, or none where it is refused
 abbrev pub passed : ℕ → List ℕ → List ℕ → List ℕ → Effect
 passed n s ls os = record { answer = n; after = s; levels = pick (eqb n 0) ls []; outputs = pick (eqb n 0) os [] }
 
 abbrev pub effect : List ℕ → Call → Effect
-effect s reset = still (resetAnswer s) (recordAfterReset s)
-effect s (write a v) = still (writeAnswer s a v) (recordAfterWrite s a v)
-effect s (read a) = still (readAnswer s a) (recordAfterRead s a)
-effect s (vector n) = still (vectorAnswer s n) (recordAfterVector s n)
+effect s reset = noClocks (resetAnswer s) (recordAfterReset s)
+effect s (write a v) = noClocks (writeAnswer s a v) (recordAfterWrite s a v)
+effect s (read a) = noClocks (readAnswer s a) (recordAfterRead s a)
+effect s (vector n) = noClocks (vectorAnswer s n) (recordAfterVector s n)
 effect s (pass (run ls os)) = passed (runAnswer s ls os) (recordAfterRun s ls os) ls (outputsAfterRun s ls os)
-effect s (pass (query q)) = still (q s) s
+effect s (pass (query q)) = noClocks (q s) s
 
 abbrev pub recordAfter : List ℕ → Call → List ℕ
 recordAfter s c = effect s c .after
@@ -115,5 +115,5 @@ abbrev pub OnlyData : List ℕ → List Call → Type 0
 OnlyData s cs = Throughout OnlyDataCall s cs
 
 -- the RxD levels of the clocks, one after another
-abbrev pub rxdOf : List ℕ → List Call → List Bool
-rxdOf s cs = gathered (λ s c. map rxdIn (effect s c .levels)) s cs
+abbrev pub rxdLevels : List ℕ → List Call → List Bool
+rxdLevels s cs = gathered (λ s c. map rxdIn (effect s c .levels)) s cs

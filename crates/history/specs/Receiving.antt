@@ -13,7 +13,7 @@ use Rattle.device.specs.declared.unit.Device.{Device}
 use Rattle.record.specs.Codec.{decodeOf}
 use Rattle.record.specs.declared.codec.Decoded.the-variants.{Accepted}
 use Rattle.warpmagpie.specs.Calls.{readValue}
-use Rattle.history.specs.Call.{Call, reset, write, read, vector, pass, effect, along, gathered, Throughout, Bytes, usartOf, OnlyData, rxdOf}
+use Rattle.history.specs.Call.{Call, reset, write, read, vector, pass, effect, along, gathered, Throughout, Bytes, usartOf, OnlyData, rxdLevels}
 
 -- a place is free whenever a frame completes: at each clock that completes one, fewer than two are held
 abbrev pub Free : List ℕ → List Call → Type 0
@@ -26,7 +26,7 @@ pub record Hears (P Q : ℕ) (fs : List Sent) (d : Device) (s : List ℕ) (cs : 
   pub ready : Ready (d .usart)
   pub bytes : Bytes cs
   pub onlyData : OnlyData s cs
-  pub line : LineOn P Q fs (d .usart .format) (d .usart .baud .ubrr) (rxdOf s cs)
+  pub line : LineOn P Q fs (d .usart .format) (d .usart .baud .ubrr) (rxdLevels s cs)
   pub free : Free s cs
 
 -- what a read of UDR0 answers, and what UCSR0B and UCSR0A read just before it

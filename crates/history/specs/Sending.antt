@@ -7,7 +7,7 @@ use lib.Dec.{eqb}
 use Rattle.choice.specs.Bit.{bitAt}
 use Rattle.choice.specs.Pick.{pick}
 use Rattle.frame.specs.Word.{dataOf}
-use Rattle.usart.specs.Sending.{AtRest, Taken, takenAt}
+use Rattle.usart.specs.Sending.{ReadyToSend, Taken, takenAt}
 use Rattle.device.specs.Output.{txdBits}
 use Rattle.device.specs.declared.unit.Device.{Device}
 use Rattle.record.specs.Codec.{decodeOf}
@@ -18,7 +18,7 @@ use Rattle.history.specs.Call.{Call, reset, write, read, vector, pass, e
 -- enabled, nothing in shift at first; no serial register but UDR0 written, and no reset
 pub record MaySend (d : Device) (s : List ℕ) (cs : List Call) : Type 0 where
   pub valid : decodeOf s ≡ Accepted d
-  pub atRest : AtRest (d .usart)
+  pub ready : ReadyToSend (d .usart)
   pub bytes : Bytes cs
   pub onlyData : OnlyData s cs
 
@@ -38,5 +38,5 @@ abbrev pub takenOf : List ℕ → List Call → List Taken
 takenOf s cs = along (λ j s c. map (takenAt j) (acceptedBy s c)) 0 s cs
 
 -- TxD and its driven mark in the outputs, one after another
-abbrev pub txdOf : List ℕ → List Call → List ℕ
-txdOf s cs = gathered (λ s c. map txdBits (effect s c .outputs)) s cs
+abbrev pub txdLevels : List ℕ → List Call → List ℕ
+txdLevels s cs = gathered (λ s c. map txdBits (effect s c .outputs)) s cs

@@ -27,7 +27,7 @@ use Rattle.usart.specs.declared.queue.Places.the-variants.{Empty, One, Two}
 use Rattle.spi.specs.declared.flag.Flag.{Flag}
 use Rattle.spi.specs.declared.flag.Flag.the-variants.{Clear, Set, Armed}
 use Rattle.record.specs.Codes.{knownSize, flagCode, flagOf}
-use Rattle.record.specs.Parts.{dataIn, bufferOf, transmissionIn, shifterOf, rememberedIn, receptionIn, samplerOf, heldCount, secondIn, placesOf}
+use Rattle.record.specs.Parts.{bufferData, bufferFrom, transmissionIn, shifterFrom, rememberedIn, receptionIn, samplerFrom, heldCount, secondIn, placesFrom}
 use Rattle.record.specs.Layout.{low, high, bit}
 
 half-power : (n : ℕ) → 1 ≤ n → 2 ^ (n - 1) * 2 ≡ 2 ^ n
@@ -71,23 +71,23 @@ flag-again Clear = refl
 flag-again Set = refl
 flag-again Armed = refl
 
-pub buffer-again : (b : Buffer) → bufferOf (not (isVacant b)) (dataIn b) ≡ b
-unfolding bufferOf
+pub buffer-again : (b : Buffer) → bufferFrom (not (isVacant b)) (bufferData b) ≡ b
+unfolding bufferFrom
 buffer-again Vacant = refl
 buffer-again (Full d) = refl
 
-pub shifter-again : (s : ShiftRegister) → shifterOf (not (isResting s)) (transmissionIn s) ≡ s
-unfolding shifterOf
+pub shifter-again : (s : ShiftRegister) → shifterFrom (not (isResting s)) (transmissionIn s) ≡ s
+unfolding shifterFrom
 shifter-again Resting = refl
 shifter-again (Sending t) = refl
 
-pub sampler-again : (s : Sampler) → samplerOf (isReceiving s) (rememberedIn s) (receptionIn s) ≡ s
-unfolding samplerOf
+pub sampler-again : (s : Sampler) → samplerFrom (isReceiving s) (rememberedIn s) (receptionIn s) ≡ s
+unfolding samplerFrom
 sampler-again (Idle last) = refl
 sampler-again (Receiving r) = refl
 
-pub places-again : (p : Places) → placesOf (heldCount p) (oldestOf p) (secondIn p) ≡ p
-unfolding placesOf
+pub places-again : (p : Places) → placesFrom (heldCount p) (oldestOf p) (secondIn p) ≡ p
+unfolding placesFrom
 places-again Empty = refl
 places-again (One a) = refl
 places-again (Two a b) = refl

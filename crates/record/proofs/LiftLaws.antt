@@ -21,7 +21,7 @@ use Rattle.usart.specs.declared.queue.Places.the-variants.{Empty, One, Two}
 use Rattle.spi.specs.Unit.{resetSpi}
 use Rattle.device.specs.Valid.{Valid}
 use Rattle.device.specs.declared.unit.Device.{Device}
-use Rattle.record.specs.Parts.{dataIn, bufferOf, transmissionIn, shifterOf, receptionIn, samplerOf, secondIn, placesOf}
+use Rattle.record.specs.Parts.{bufferData, bufferFrom, transmissionIn, shifterFrom, receptionIn, samplerFrom, secondIn, placesFrom}
 use Rattle.record.specs.Layout.{imageOf}
 use Rattle.record.specs.Lift.{baudAt, formatWith, formatAt, controlAt, bufferAt, transmissionAt, shifterAt, senderWith, senderAt, receptionAt, samplerAt, oldestAt, secondAt, queueWith, queueAt, usartAt, spiControlAt, flagsAt, pinsAt, spiAt, deviceAt}
 use Rattle.record.proofs.CodeLaws.{data-limit, word-limit, word-parts, flag-bit, size-again, parity-again, flag-again, buffer-again, shifter-again, sampler-again, places-again}
@@ -47,7 +47,7 @@ flags-apart false false = (refl, refl)
 
 -- the words of valid parts
 
-pub data-lt : (f : Format) (b : Buffer) → ValidBuffer f b → dataIn b < 512
+pub data-lt : (f : Format) (b : Buffer) → ValidBuffer f b → bufferData b < 512
 data-lt f Vacant v = omega arith
 data-lt f (Full d) v = let l = data-limit (f .size) in let w : d < 2 ^ dataBits (f .size) = v in omega arith
 
@@ -87,8 +87,8 @@ module _ (d : Device) (v : Valid d) where
 
   buffer-law : bufferAt (imageOf d) ≡ d .usart .sender .buffer
   buffer-law =
-      let l : dataIn (d .usart .sender .buffer) < 512 = data-lt (d .usart .format) (d .usart .sender .buffer) (v .usart .sender .buffer) in
-      ap₂ bufferOf (flag-bit _) (word-parts (dataIn (d .usart .sender .buffer)) (omega arith)) ∙ buffer-again (d .usart .sender .buffer)
+      let l : bufferData (d .usart .sender .buffer) < 512 = data-lt (d .usart .format) (d .usart .sender .buffer) (v .usart .sender .buffer) in
+      ap₂ bufferFrom (flag-bit _) (word-parts (bufferData (d .usart .sender .buffer)) (omega arith)) ∙ buffer-again (d .usart .sender .buffer)
 
   transmission-law : transmissionAt (imageOf d) ≡ transmissionIn (d .usart .sender .shifter)
   transmission-law =
@@ -98,7 +98,7 @@ module _ (d : Device) (v : Valid d) where
       simp (word-parts)
 
   shifter-law : shifterAt (imageOf d) ≡ d .usart .sender .shifter
-  shifter-law = ap₂ shifterOf (flag-bit _) transmission-law ∙ shifter-again (d .usart .sender .shifter)
+  shifter-law = ap₂ shifterFrom (flag-bit _) transmission-law ∙ shifter-again (d .usart .sender .shifter)
 
   sender-law : senderAt (imageOf d) ≡ d .usart .sender
   sender-law = ap₂ (senderWith (imageOf d)) buffer-law shifter-law ∙ simp (flag-bit)
@@ -112,8 +112,8 @@ module _ (d : Device) (v : Valid d) where
 
   sampler-law : samplerAt (imageOf d) ≡ d .usart .receiver .sampler
   sampler-law =
-      ap₂ (λ (x y : Bool). samplerOf x y (receptionAt (imageOf d))) (flag-bit _) (flag-bit _)
-      ∙ ap (samplerOf _ _) reception-law
+      ap₂ (λ (x y : Bool). samplerFrom x y (receptionAt (imageOf d))) (flag-bit _) (flag-bit _)
+      ∙ ap (samplerFrom _ _) reception-law
       ∙ sampler-again (d .usart .receiver .sampler)
 
   oldest-law : oldestAt (imageOf d) ≡ oldestOf (d .usart .receiver .queue .places)
@@ -132,7 +132,7 @@ module _ (d : Device) (v : Valid d) where
 
   queue-law : queueAt (imageOf d) ≡ d .usart .receiver .queue
   queue-law =
-      ap (queueWith (imageOf d)) (ap₂ (placesOf _) oldest-law second-law ∙ places-again (d .usart .receiver .queue .places)) ∙ simp (flag-bit)
+      ap (queueWith (imageOf d)) (ap₂ (placesFrom _) oldest-law second-law ∙ places-again (d .usart .receiver .queue .places)) ∙ simp (flag-bit)
 
   usart-law : usartAt (imageOf d) ≡ d .usart
   usart-law = rw (baud-law, format-law, control-law, sender-law, sampler-law, queue-law)

@@ -13,7 +13,7 @@ use Rattle.device.specs.declared.unit.Device.{Device}
 use Rattle.record.specs.Layout.{limits}
 use Rattle.record.specs.Lift.{deviceAt}
 use Rattle.record.specs.Ranges.{inRange}
-use Rattle.record.specs.Codec.{recordOf, decodeOf, storedOf}
+use Rattle.record.specs.Codec.{recordOf, decodeOf, storedOver}
 use Rattle.record.specs.declared.codec.Decoded.{Decoded}
 use Rattle.record.specs.declared.codec.Decoded.the-variants.{Accepted, Refused}
 use Rattle.record.proofs.Images.{image, source}
@@ -49,12 +49,12 @@ decode-length s d h = ap length (sym (record-decode s d h)) ∙ record-length d
 pub one-device : (d e : Device) → Valid d → Valid e → recordOf d ≡ recordOf e → d ≡ e
 one-device d e v w h = sym (record-lifted d v) ∙ ap deviceAt h ∙ record-lifted e w
 
-pub stored : (d : Device) (s : List ℕ) → length s ≡ 64 → storedOf d s ≡ recordOf d
-unfolding storedOf
+pub stored : (d : Device) (s : List ℕ) → length s ≡ 64 → storedOver d s ≡ recordOf d
+unfolding storedOver
 stored d s h = sym (pick-true _ _ _ _ (eq-eqb (length s) 64 h) refl)
 
-pub not-stored : (d : Device) (s : List ℕ) → (length s ≡ 64 → ⊥) → storedOf d s ≡ s
-unfolding storedOf
+pub not-stored : (d : Device) (s : List ℕ) → (length s ≡ 64 → ⊥) → storedOver d s ≡ s
+unfolding storedOver
 not-stored d s h = sym (pick-false _ _ _ _ (ne-eqb (length s) 64 h) refl)
 
 -- accepted or refused, as a case

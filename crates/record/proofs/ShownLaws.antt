@@ -19,7 +19,7 @@ use Rattle.usart.specs.declared.sampler.Reception.{Reception}
 use Rattle.usart.specs.declared.queue.Frame.{Frame}
 use Rattle.device.specs.Unit.{resetDevice}
 use Rattle.record.specs.Codes.{knownSize, flagCode, flagOf}
-use Rattle.record.specs.Parts.{dataIn, bufferOf, transmissionIn, shifterOf, rememberedIn, receptionIn, samplerOf, heldCount, secondIn, placesOf}
+use Rattle.record.specs.Parts.{bufferData, bufferFrom, transmissionIn, shifterFrom, rememberedIn, receptionIn, samplerFrom, heldCount, secondIn, placesFrom}
 use Rattle.record.specs.Layout.{low, high, bit, imageOf}
 use Rattle.record.specs.Lift.{byteAt, wordAt, setAt, transmissionAt, oldestAt, secondAt, placesAt, deviceAt}
 use Rattle.record.specs.Shown.{isFlag, isZero, isSizeCode, isUpm, isFlagCode, settingsShown, senderShown, samplerShown, queueShown, usartShown, spiShown, isShown}
@@ -125,10 +125,10 @@ flag-code-place x =
     let c' = eqb-false x 2 c in
     rw (b, c, le-ltb x 3 (omega arith), ne-eqb 0 x (omega arith)))))
 
-held-place : (x : ℕ) (a b : Frame) → eqb (heldCount (placesOf x a b)) x ≡ ltb x 3
-unfolding placesOf
+held-place : (x : ℕ) (a b : Frame) → eqb (heldCount (placesFrom x a b)) x ≡ ltb x 3
+unfolding placesFrom
 held-place x a b =
-    let P : ℕ → Type 0 = λ k. eqb (heldCount (placesOf k a b)) k ≡ ltb k 3 in
+    let P : ℕ → Type 0 = λ k. eqb (heldCount (placesFrom k a b)) k ≡ ltb k 3 in
     split (eqb x 0) (at P x 0 refl)
     (λ c. split (eqb x 1) (at P x 1 refl)
     (λ d. split (eqb x 2) (at P x 2 refl)
@@ -138,20 +138,20 @@ held-place x a b =
     let e' = eqb-false x 2 e in
     rw (c, d, le-ltb x 3 (omega arith), ne-eqb 2 x (omega arith)))))
 
-buffer-full : (t : Bool) (w : ℕ) → not (isVacant (bufferOf t w)) ≡ t
-unfolding bufferOf
+buffer-full : (t : Bool) (w : ℕ) → not (isVacant (bufferFrom t w)) ≡ t
+unfolding bufferFrom
 buffer-full true w = refl
 buffer-full false w = refl
 
-full-place : (x w : ℕ) → eqb (bit (not (isVacant (bufferOf (eqb x 1) w)))) x ≡ isFlag x
+full-place : (x w : ℕ) → eqb (bit (not (isVacant (bufferFrom (eqb x 1) w)))) x ≡ isFlag x
 full-place x w = ap (λ (t : Bool). eqb (bit t) x) (buffer-full (eqb x 1) w) ∙ flag-place x
 
-shifter-sending : (t : Bool) (s : Transmission) → not (isResting (shifterOf t s)) ≡ t
-unfolding shifterOf
+shifter-sending : (t : Bool) (s : Transmission) → not (isResting (shifterFrom t s)) ≡ t
+unfolding shifterFrom
 shifter-sending true s = refl
 shifter-sending false s = refl
 
-sending-place : (x : ℕ) (s : Transmission) → eqb (bit (not (isResting (shifterOf (eqb x 1) s)))) x ≡ isFlag x
+sending-place : (x : ℕ) (s : Transmission) → eqb (bit (not (isResting (shifterFrom (eqb x 1) s)))) x ≡ isFlag x
 sending-place x s = ap (λ (t : Bool). eqb (bit t) x) (shifter-sending (eqb x 1) s) ∙ flag-place x
 
 -- a comparison of lists, byte by byte: with the tests a before it, it comes to r
@@ -195,8 +195,8 @@ _⟫_ {a} {g} {r} {xs} {ys} {us} {vs} p h = record { holds = ap (λ (t : Bool). 
 -- the parts that have cases, each by the test that decides which
 
 buffer-bytes : (t : Bool) (x y : ℕ) → x < 256 → y < 256 → (xs ys : List ℕ) →
-    Part (t || isZero x && isZero y) (low (dataIn (bufferOf t (word x y))) ∷ high (dataIn (bufferOf t (word x y))) ∷ xs) (x ∷ y ∷ ys) xs ys
-unfolding bufferOf
+    Part (t || isZero x && isZero y) (low (bufferData (bufferFrom t (word x y))) ∷ high (bufferData (bufferFrom t (word x y))) ∷ xs) (x ∷ y ∷ ys) xs ys
+unfolding bufferFrom
 buffer-bytes true x y h k xs ys = part (low-place x y h ▸ high-place x y k ▸ rest)
 buffer-bytes false x y h k xs ys = part (zero-place x ▹ zero-place y ▹ rest)
 
@@ -204,9 +204,9 @@ abbrev sent : ℕ → ℕ → ℕ → ℕ → Transmission
 sent x y m n = record { word = word x y; bit = m; sample = record { 0 = n } }
 
 shifter-bytes : (t : Bool) (x y m n : ℕ) → x < 256 → y < 256 → (xs ys : List ℕ) →
-    let s = transmissionIn (shifterOf t (sent x y m n)) in
+    let s = transmissionIn (shifterFrom t (sent x y m n)) in
     Part (t || isZero x && isZero y && isZero m && isZero n) (low (s .word) ∷ high (s .word) ∷ s .bit ∷ s .sample .0 ∷ xs) (x ∷ y ∷ m ∷ n ∷ ys) xs ys
-unfolding shifterOf
+unfolding shifterFrom
 shifter-bytes true x y m n h k xs ys = part (low-place x y h ▸ high-place x y k ▸ same-place m ▸ same-place n ▸ rest)
 shifter-bytes false x y m n h k xs ys = part (zero-place x ▹ zero-place y ▹ zero-place m ▹ zero-place n ▹ rest)
 
@@ -214,14 +214,14 @@ abbrev received : ℕ → ℕ → ℕ → ℕ → ℕ → ℕ → Reception
 received m n p q x y = record { bit = m; sample = record { 0 = n }; first = eqb p 1; second = eqb q 1; word = word x y }
 
 sampler-bytes : (t : Bool) (k l m n p q x y : ℕ) → eqb k 1 ≡ t → x < 256 → y < 256 → (xs ys : List ℕ) →
-    let s = samplerOf t (eqb l 1) (received m n p q x y) in
+    let s = samplerFrom t (eqb l 1) (received m n p q x y) in
     let r = receptionIn s in
     Part
     (t && isZero l && isFlag p && isFlag q
     || isZero k && isFlag l && isZero m && isZero n && isZero p && isZero q && isZero x && isZero y)
     (bit (isReceiving s) ∷ bit (rememberedIn s) ∷ r .bit ∷ r .sample .0 ∷ bit (r .first) ∷ bit (r .second) ∷ low (r .word) ∷ high (r .word) ∷ xs)
     (k ∷ l ∷ m ∷ n ∷ p ∷ q ∷ x ∷ y ∷ ys) xs ys
-unfolding samplerOf
+unfolding samplerFrom
 sampler-bytes true k l m n p q x y e h h' xs ys =
     let one : k ≡ 1 = eqb-true k 1 e in
     let z : isZero k ≡ false = ne-eqb k 0 (omega arith) in
@@ -249,17 +249,17 @@ at-most n k =
     split (ltb k n) (λ e. let l = ltb-true k n e in rw e (le-ltb n (k + 1) (omega arith)))
     (λ e. let l = ltb-false k n e in rw e (lt-ltb n (k + 1) (omega arith)))
 
-oldest-held : (n : ℕ) (a b : Frame) → oldestOf (placesOf n a b) ≡ pick (ltb 0 n) a noFrame
-unfolding placesOf
+oldest-held : (n : ℕ) (a b : Frame) → oldestOf (placesFrom n a b) ≡ pick (ltb 0 n) a noFrame
+unfolding placesFrom
 oldest-held n a b =
-    let P : ℕ → Type 0 = λ k. oldestOf (placesOf k a b) ≡ pick (ltb 0 k) a noFrame in
+    let P : ℕ → Type 0 = λ k. oldestOf (placesFrom k a b) ≡ pick (ltb 0 k) a noFrame in
     split (eqb n 0) (at P n 0 refl) (λ c. split (eqb n 1) (at P n 1 refl)
     (λ d. let c' = eqb-false n 0 c in rw (c, d, lt-ltb 0 n (omega arith))))
 
-second-held : (n : ℕ) (a b : Frame) → secondIn (placesOf n a b) ≡ pick (ltb 1 n) b noFrame
-unfolding placesOf
+second-held : (n : ℕ) (a b : Frame) → secondIn (placesFrom n a b) ≡ pick (ltb 1 n) b noFrame
+unfolding placesFrom
 second-held n a b =
-    let P : ℕ → Type 0 = λ k. secondIn (placesOf k a b) ≡ pick (ltb 1 k) b noFrame in
+    let P : ℕ → Type 0 = λ k. secondIn (placesFrom k a b) ≡ pick (ltb 1 k) b noFrame in
     split (eqb n 0) (at P n 0 refl) (λ c. split (eqb n 1) (at P n 1 refl)
     (λ d. let c' = eqb-false n 0 c in let d' = eqb-false n 1 d in rw (c, d, lt-ltb 1 n (omega arith))))
 

@@ -32,5 +32,5 @@ decodeOf s =
     Refused
 
 -- a slice after a device was stored in it: one that is not 64 long is left as it is
-unfoldable pub storedOf : Device → List ℕ → List ℕ
-storedOf d s = pick (eqb (length s) 64) (recordOf d) s
+unfoldable pub storedOver : Device → List ℕ → List ℕ
+storedOver d s = pick (eqb (length s) 64) (recordOf d) s

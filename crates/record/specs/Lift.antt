@@ -29,7 +29,7 @@ use Rattle.spi.specs.declared.unit.Pins.{Pins}
 use Rattle.spi.specs.declared.unit.Spi.{Spi}
 use Rattle.device.specs.declared.unit.Device.{Device}
 use Rattle.record.specs.Codes.{knownSize, flagOf}
-use Rattle.record.specs.Parts.{bufferOf, shifterOf, samplerOf, placesOf}
+use Rattle.record.specs.Parts.{bufferFrom, shifterFrom, samplerFrom, placesFrom}
 
 abbrev pub byteAt : List ℕ → ℕ → ℕ
 byteAt b i = getD b i 0
@@ -54,13 +54,13 @@ controlAt b =
     record { rxcie = setAt b 8; txcie = setAt b 9; udrie = setAt b 10; rxen = setAt b 11; txen = setAt b 12; txb8 = setAt b 13 }
 
 abbrev pub bufferAt : List ℕ → Buffer
-bufferAt b = bufferOf (setAt b 15) (wordAt b 16)
+bufferAt b = bufferFrom (setAt b 15) (wordAt b 16)
 
 abbrev pub transmissionAt : List ℕ → Transmission
 transmissionAt b = record { word = wordAt b 19; bit = byteAt b 21; sample = record { 0 = byteAt b 22 } }
 
 abbrev pub shifterAt : List ℕ → ShiftRegister
-shifterAt b = shifterOf (setAt b 18) (transmissionAt b)
+shifterAt b = shifterFrom (setAt b 18) (transmissionAt b)
 
 abbrev pub senderWith : List ℕ → Buffer → ShiftRegister → Sender
 senderWith b u s = record { buffer = u; shifter = s; txc = setAt b 14 }
@@ -73,7 +73,7 @@ receptionAt b =
     record { bit = byteAt b 25; sample = record { 0 = byteAt b 26 }; first = setAt b 27; second = setAt b 28; word = wordAt b 29 }
 
 abbrev pub samplerAt : List ℕ → Sampler
-samplerAt b = samplerOf (setAt b 23) (setAt b 24) (receptionAt b)
+samplerAt b = samplerFrom (setAt b 23) (setAt b 24) (receptionAt b)
 
 -- a held frame whose bytes begin at i
 abbrev pub frameAt : List ℕ → ℕ → Frame
@@ -86,7 +86,7 @@ abbrev pub secondAt : List ℕ → Frame
 secondAt b = frameAt b 38
 
 abbrev pub placesAt : List ℕ → Places
-placesAt b = placesOf (byteAt b 31) (oldestAt b) (secondAt b)
+placesAt b = placesFrom (byteAt b 31) (oldestAt b) (secondAt b)
 
 abbrev pub queueWith : List ℕ → Places → Queue
 queueWith b p = record { places = p; lost = setAt b 32 }

@@ -22,25 +22,25 @@ use Rattle.usart.specs.declared.receiver.Receiver.{Receiver}
 use Rattle.record.specs.declared.parts.SenderParts.{SenderParts}
 use Rattle.record.specs.declared.parts.ReceiverParts.{ReceiverParts}
 
-abbrev pub dataIn : Buffer → ℕ
-dataIn Vacant = 0
-dataIn (Full d) = d
+abbrev pub bufferData : Buffer → ℕ
+bufferData Vacant = 0
+bufferData (Full d) = d
 
-unfoldable pub bufferOf : Bool → ℕ → Buffer
-bufferOf full d = pick full (Full d) Vacant
+unfoldable pub bufferFrom : Bool → ℕ → Buffer
+bufferFrom full d = pick full (Full d) Vacant
 
 abbrev pub transmissionIn : ShiftRegister → Transmission
 transmissionIn Resting = record { word = 0; bit = 0; sample = record { 0 = 0 } }
 transmissionIn (Sending t) = t
 
-unfoldable pub shifterOf : Bool → Transmission → ShiftRegister
-shifterOf sending t = pick sending (Sending t) Resting
+unfoldable pub shifterFrom : Bool → Transmission → ShiftRegister
+shifterFrom sending t = pick sending (Sending t) Resting
 
 abbrev pub senderParts : Sender → SenderParts
 senderParts s =
     record {
       full = not (isVacant (s .buffer));
-      «data» = dataIn (s .buffer);
+      «data» = bufferData (s .buffer);
       sending = not (isResting (s .shifter));
       transmission = transmissionIn (s .shifter);
     }
@@ -54,8 +54,8 @@ abbrev pub receptionIn : Sampler → Reception
 receptionIn (Idle last) = record { bit = 0; sample = record { 0 = 0 }; first = false; second = false; word = 0 }
 receptionIn (Receiving r) = r
 
-unfoldable pub samplerOf : Bool → Bool → Reception → Sampler
-samplerOf receiving last r = pick receiving (Receiving r) (Idle last)
+unfoldable pub samplerFrom : Bool → Bool → Reception → Sampler
+samplerFrom receiving last r = pick receiving (Receiving r) (Idle last)
 
 abbrev pub heldCount : Places → ℕ
 heldCount Empty = 0
@@ -67,8 +67,8 @@ secondIn Empty = noFrame
 secondIn (One a) = noFrame
 secondIn (Two a b) = b
 
-unfoldable pub placesOf : ℕ → Frame → Frame → Places
-placesOf n a b = pick (eqb n 0) Empty (pick (eqb n 1) (One a) (Two a b))
+unfoldable pub placesFrom : ℕ → Frame → Frame → Places
+placesFrom n a b = pick (eqb n 0) Empty (pick (eqb n 1) (One a) (Two a b))
 
 abbrev pub receiverParts : Receiver → ReceiverParts
 receiverParts r =

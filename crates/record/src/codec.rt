@@ -9,7 +9,7 @@ ghost use mathlib.Core.Path.{_≡_};
 ghost use lib.ListN.{length};
 ghost use Rattle.record.specs.Lift.{deviceAt};
 ghost use Rattle.record.specs.Ranges.{inRange};
-ghost use Rattle.record.specs.Codec.{decodeOf, storedOf};
+ghost use Rattle.record.specs.Codec.{decodeOf, storedOver};
 
 pub enum Decoded {
     Accepted(Device),
@@ -74,7 +74,7 @@ pub fn decode(s: &[u8]) -> Decoded
 
 // Writes a device's record; a slice that is not 64 long is left as it is.
 pub fn store(d: Device, s: &mut [u8])
-    ensures { λ _. ⌜ now (s .exit) ≡ storedOf d (now (s .entry)) ⌝ }
+    ensures { λ _. ⌜ now (s .exit) ≡ storedOver d (now (s .entry)) ⌝ }
 {
     if s.len() == 64 {
         put(image(d), s);

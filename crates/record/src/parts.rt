@@ -9,7 +9,7 @@ use usart::Sender;
 use usart::ShiftRegister;
 use usart::Transmission;
 ghost use mathlib.Core.Path.{_≡_};
-ghost use Rattle.record.specs.Parts.{dataIn, bufferOf, transmissionIn, shifterOf, rememberedIn, receptionIn, samplerOf, heldCount, secondIn, placesOf, senderParts, receiverParts};
+ghost use Rattle.record.specs.Parts.{bufferData, bufferFrom, transmissionIn, shifterFrom, rememberedIn, receptionIn, samplerFrom, heldCount, secondIn, placesFrom, senderParts, receiverParts};
 
 // What the bytes hold of a sender, but TXC.
 pub struct SenderParts {
@@ -30,7 +30,7 @@ pub struct ReceiverParts {
 }
 
 fn data(b: Buffer) -> u16
-    ensures { λ r. ⌜ r ≡ dataIn b ⌝ }
+    ensures { λ r. ⌜ r ≡ bufferData b ⌝ }
 {
     match b {
         Buffer::Vacant => 0,
@@ -39,7 +39,7 @@ fn data(b: Buffer) -> u16
 }
 
 pub fn buffer_of(full: bool, data: u16) -> Buffer
-    ensures { λ r. ⌜ r ≡ bufferOf full «data» ⌝ }
+    ensures { λ r. ⌜ r ≡ bufferFrom full «data» ⌝ }
 {
     if full {
         return Buffer::Full(data);
@@ -61,7 +61,7 @@ fn transmission(s: ShiftRegister) -> Transmission
 }
 
 pub fn shifter_of(sending: bool, t: Transmission) -> ShiftRegister
-    ensures { λ r. ⌜ r ≡ shifterOf sending t ⌝ }
+    ensures { λ r. ⌜ r ≡ shifterFrom sending t ⌝ }
 {
     if sending {
         return ShiftRegister::Sending(t);
@@ -112,7 +112,7 @@ fn reception(s: Sampler) -> Reception
 }
 
 pub fn sampler_of(receiving: bool, last: bool, r: Reception) -> Sampler
-    ensures { λ s. ⌜ s ≡ samplerOf receiving last r ⌝ }
+    ensures { λ s. ⌜ s ≡ samplerFrom receiving last r ⌝ }
 {
     if receiving {
         return Sampler::Receiving(r);
@@ -148,7 +148,7 @@ fn second(p: Places) -> Frame
 
 // A count above 2 gives any places: a record that has one is refused before it is lifted.
 pub fn places_of(held: u8, a: Frame, b: Frame) -> Places
-    ensures { λ r. ⌜ r ≡ placesOf held a b ⌝ }
+    ensures { λ r. ⌜ r ≡ placesFrom held a b ⌝ }
 {
     if held == 0 {
         return Places::Empty;

@@ -15,7 +15,7 @@ use Rattle.shifter.specs.declared.Shifter.{Shifter}
 use Rattle.spi.specs.Control.{isEnabled, isMaster, modeOf, half, isModeFault}
 use Rattle.spi.specs.Means.{withLeft, withMiso, withSck}
 use Rattle.spi.specs.Transfer.{byteOf, edgedTransfer, edgedFlags, edgedOut}
-use Rattle.spi.specs.Clock.{masterEdge, masterOf, masterClock, presentedOf, slaveEdge, selectedOf, slaveOf, steppedOf, clockOf}
+use Rattle.spi.specs.Clock.{masterEdge, masterOf, masterClock, presentedOf, slaveEdge, selectedOf, slaveOf, byModeOf, clockOf}
 use Rattle.spi.specs.Event.{isKept, edgeAt, inputOf, outOf}
 use Rattle.spi.specs.declared.clock.Levels.{Levels}
 use Rattle.spi.specs.declared.transfer.Transfer.{Transfer}
@@ -79,11 +79,11 @@ edged-view s sck x k h =
 
 module _ (s : Spi) (l : Levels) (on : isEnabled (s .control) ≡ true) (kept : isKept (s .control) l ≡ true) where
   master-clock : isMaster (s .control) ≡ true → clockOf s l ≡ masterClock s l
-  unfolding steppedOf
+  unfolding byModeOf
   master-clock m = rw (on, m, not-true (isModeFault (s .control) (l .ss)) (rw m at kept))
 
   slave-clock : isMaster (s .control) ≡ false → clockOf s l ≡ withSck (selectedOf s l) (l .sck)
-  unfolding steppedOf slaveOf
+  unfolding byModeOf slaveOf
   slave-clock m = rw (on, m, not-true (l .ss) (rw m at kept))
 
   master-waits : isMaster (s .control) ≡ true → edgeAt s (l .sck) ≡ false

@@ -9,7 +9,7 @@ use Rattle.spi.specs.Control.{isEnabled, isMaster, isModeFault}
 use Rattle.spi.specs.Flag.{isUp}
 use Rattle.spi.specs.Transfer.{isUnderWay, droppedOf}
 use Rattle.spi.specs.Means.{withSck, withTransfer}
-use Rattle.spi.specs.Clock.{faultOf, slaveOf, steppedOf, clockOf}
+use Rattle.spi.specs.Clock.{faultOf, slaveOf, byModeOf, clockOf}
 use Rattle.spi.specs.declared.clock.Levels.{Levels}
 use Rattle.spi.specs.declared.unit.Spi.{Spi}
 use Rattle.spi.proofs.Progress.{raised-up}
@@ -25,17 +25,17 @@ pub record Dropped (s t : Spi) : Type 0 where
 module _ (s : Spi) (l : Levels) (on : isEnabled (s .control) ≡ true) where
   -- SS high at a slave
   pub deselected : isMaster (s .control) ≡ false → l .ss ≡ true → Dropped s (clockOf s l)
-  unfolding steppedOf slaveOf isUnderWay
+  unfolding byModeOf slaveOf isUnderWay
   deselected m h =
-      let w : steppedOf s l ≡ withTransfer s (droppedOf (s .transfer)) = rw (on, m, h) refl in
+      let w : byModeOf s l ≡ withTransfer s (droppedOf (s .transfer)) = rw (on, m, h) refl in
       subst (λ (t : Spi). Dropped s (withSck t (l .sck))) (sym w) (record { idle = refl; shift = refl; received = refl; mosi = refl; miso = refl })
 
   -- a mode fault
   pub faulted : isMaster (s .control) ≡ true → isModeFault (s .control) (l .ss) ≡ true
       → Dropped s (clockOf s l) × ((isMaster (clockOf s l .control) ≡ false) × (isUp (clockOf s l .flags .spif) ≡ true))
-  unfolding steppedOf isUnderWay
+  unfolding byModeOf isUnderWay
   faulted m h =
-      let w : steppedOf s l ≡ faultOf s = rw (on, m, h) refl in
+      let w : byModeOf s l ≡ faultOf s = rw (on, m, h) refl in
       let n : ℕ = s .control .spcr in
       subst
       (λ (t : Spi). Dropped s (withSck t (l .sck)) × ((isMaster (t .control) ≡ false) × (isUp (t .flags .spif) ≡ true)))

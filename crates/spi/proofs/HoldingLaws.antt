@@ -14,7 +14,7 @@ use Rattle.spi.specs.Control.{isEnabled, isMaster, modeOf, isModeFault}
 use Rattle.spi.specs.Means.{differs, withTransfer, withLeft, withMiso, withSck}
 use Rattle.spi.specs.Transfer.{isUnderWay, droppedOf}
 use Rattle.spi.specs.Unit.{outputOf, requestsOf}
-use Rattle.spi.specs.Clock.{masterOf, isSckEdge, presentedOf, selectedOf, slaveOf, steppedOf, clockOf}
+use Rattle.spi.specs.Clock.{masterOf, isSckEdge, presentedOf, selectedOf, slaveOf, byModeOf, clockOf}
 use Rattle.spi.specs.Holding.{clockAt, heldOf, isPresented, slaveRests, masterRests, stepRests, isAtRest, staysMaster, waitsFor, countedOf, PassedOn}
 use Rattle.spi.specs.declared.clock.Levels.{Levels}
 use Rattle.spi.specs.declared.transfer.Transfer.{Transfer}
@@ -49,8 +49,8 @@ module _ (s : Spi) where
         split (l .ss) (λ e. rw e (ap (withTransfer s) (dropped-rests (s .transfer) (not-true _ (rw e at h)))))
         (λ e. rw (e, d) (presented-rests (rw e at h)))
 
-    step-rests : differs (l .sck) (s .pins .sck) ≡ false → stepRests s (l .ss) ≡ true → steppedOf s l ≡ s
-    unfolding stepRests masterRests steppedOf masterOf
+    step-rests : differs (l .sck) (s .pins .sck) ≡ false → stepRests s (l .ss) ≡ true → byModeOf s l ≡ s
+    unfolding stepRests masterRests byModeOf masterOf
     step-rests d h =
         split (isEnabled (s .control))
         (λ on. split (isMaster (s .control))
@@ -76,7 +76,7 @@ module _ (s : Spi) where
     rest-requests n h = ap requestsOf (rest-held n h)
 
     counts-one : staysMaster (s .control) (l .ss) ≡ true → 2 ≤ s .transfer .left .0 → clockOf s l ≡ countedOf s (l .sck) 1
-    unfolding staysMaster steppedOf masterOf
+    unfolding staysMaster byModeOf masterOf
     counts-one h two =
         let on = both (isEnabled (s .control)) _ h in
         let m = both (isMaster (s .control)) _ (on .1) in

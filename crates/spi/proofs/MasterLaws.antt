@@ -6,13 +6,13 @@ use borrow.Author.Tests.{not-true}
 use Rattle.choice.proofs.Picks.{split, both}
 use Rattle.spi.specs.Control.{isEnabled, isMaster, isInput, isModeFault, keepsMaster}
 use Rattle.spi.specs.Means.{withSck}
-use Rattle.spi.specs.Clock.{masterOf, masterClock, steppedOf, clockOf}
+use Rattle.spi.specs.Clock.{masterOf, masterClock, byModeOf, clockOf}
 use Rattle.spi.specs.Unit.{outputOf}
 use Rattle.spi.specs.declared.clock.Levels.{Levels}
 use Rattle.spi.specs.declared.unit.Spi.{Spi}
 
 pub off-clock : (s : Spi) (l : Levels) → isEnabled (s .control) ≡ false → clockOf s l ≡ withSck s (l .sck)
-unfolding steppedOf
+unfolding byModeOf
 off-clock s l off = rw off refl
 
 pub off-output : (s : Spi) (ss : Bool) → isEnabled (s .control) ≡ false → outputOf s ss ≡ 0
@@ -21,7 +21,7 @@ off-output s ss off = rw off refl
 
 module _ (s : Spi) (l : Levels) where
   pub keeps-clock : keepsMaster (s .control) ≡ true → clockOf s l ≡ masterClock s l
-  unfolding steppedOf keepsMaster isModeFault
+  unfolding byModeOf keepsMaster isModeFault
   keeps-clock h =
       let on = both (isEnabled (s .control)) _ h in
       let master = both (isMaster (s .control)) _ (on .1) in

@@ -15,7 +15,7 @@ use Rattle.spi.specs.Control.{isEnabled, isMaster, cpolOf, modeOf, divis
 use Rattle.spi.specs.Means.{differs}
 use Rattle.spi.specs.Transfer.{isUnderWay, droppedOf, byteOf, edgedTransfer}
 use Rattle.spi.specs.Unit.{resetSpi, isRequested}
-use Rattle.spi.specs.Clock.{masterOf, faultOf, isSckEdge, selectedOf, slaveOf, steppedOf, clockOf}
+use Rattle.spi.specs.Clock.{masterOf, faultOf, isSckEdge, selectedOf, slaveOf, byModeOf, clockOf}
 use Rattle.spi.specs.Register.{settled, writeSpcr, writeSpsr, filled, loadedOf, accessed, setDdrb, writeOf, readOf, vectorOf}
 use Rattle.spi.specs.Valid.{ValidTransfer, Valid}
 use Rattle.spi.specs.declared.clock.Levels.{Levels}
@@ -129,8 +129,8 @@ module _ (s : Spi) (v : Valid s) where
     transfer = valid-dropped (s .control) (withoutMstr (s .control)) (s .transfer) (v .transfer);
   }
 
-  valid-stepped : (l : Levels) → Valid (steppedOf s l)
-  unfolding steppedOf slaveOf
+  valid-stepped : (l : Levels) → Valid (byModeOf s l)
+  unfolding byModeOf slaveOf
   valid-stepped l =
       pick-ind Valid (isEnabled (s .control)) _ _
       (λ on. pick-ind Valid (isMaster (s .control)) _ _

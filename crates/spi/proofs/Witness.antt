@@ -11,7 +11,7 @@ use Rattle.spi.specs.Control.{modeOf, divisorNumber, isModeFault}
 use Rattle.spi.specs.Means.{differs}
 use Rattle.spi.specs.Transfer.{isUnderWay}
 use Rattle.spi.specs.Unit.{isRequested}
-use Rattle.spi.specs.Clock.{masterOf, isSckEdge, presentedOf, selectedOf, slaveOf, steppedOf}
+use Rattle.spi.specs.Clock.{masterOf, isSckEdge, presentedOf, selectedOf, slaveOf, byModeOf}
 use Rattle.spi.specs.Register.{writeSpcr, loadedOf, writeSpdr, vectorOf}
 use Rattle.spi.specs.Event.{Event, clock, write, read, vector}
 use Rattle.spi.specs.Exchange.{Exchanges}
@@ -47,7 +47,7 @@ polled =
     read Spsr ∷ clocks (levels true false false true) 9 (read Spsr ∷ write Spdr 85 ∷ clocks (levels false false false true) 12 (write Spcr 80 ∷ vector ∷ read Spsr ∷ clocks (levels true true true true) 10 []))
 
 pub master-witness : Exchanges (modeOf (unit 124 44 0 .control)) (writeSpdr (unit 124 44 0) 167) 167 (polled ++ (clock (levels true false true true) ∷ []))
-unfolding unit levels clocks polled outBit shiftedIn isSampling isPutting edgeOf firstOut nextEdge edgedOf divisorNumber isModeFault isUnderWay isRequested masterOf steppedOf writeSpcr loadedOf vectorOf
+unfolding unit levels clocks polled outBit shiftedIn isSampling isPutting edgeOf firstOut nextEdge edgedOf divisorNumber isModeFault isUnderWay isRequested masterOf byModeOf writeSpcr loadedOf vectorOf
 master-witness =
     master-exchanges (unit 124 44 0) 167 polled (levels true false true true) (record { enabled = refl; master = refl; idle = refl; byte = lit< tt }) refl refl
 
@@ -63,7 +63,7 @@ sensed =
     toggled (suc n) false = clock (levels false false false false) ∷ toggled n true
 
 pub slave-witness : Exchanges (modeOf (unit 64 16 60 .control)) (unit 64 16 60) 60 sensed
-unfolding unit levels clocks sensed outBit shiftedIn isSampling isPutting edgeOf firstOut nextEdge edgedOf divisorNumber isUnderWay differs isSckEdge presentedOf selectedOf slaveOf steppedOf loadedOf
+unfolding unit levels clocks sensed outBit shiftedIn isSampling isPutting edgeOf firstOut nextEdge edgedOf divisorNumber isUnderWay differs isSckEdge presentedOf selectedOf slaveOf byModeOf loadedOf
 slave-witness = slave-exchanges (unit 64 16 60) sensed (record { enabled = refl; slave = refl; idle = refl; byte = lit< tt }) refl refl
 
 -- a master of mode 0, divisor 4, and a slave that is clocked after it each time

@@ -76,8 +76,8 @@ selectedOf s l =
 unfoldable pub slaveOf : Spi → Levels → Spi
 slaveOf s l = pick (l .ss) (withTransfer s (droppedOf (s .transfer))) (selectedOf s l)
 
-unfoldable pub steppedOf : Spi → Levels → Spi
-steppedOf s l =
+unfoldable pub byModeOf : Spi → Levels → Spi
+byModeOf s l =
     pick (isEnabled (s .control))
     (pick (isMaster (s .control))
     (pick (isModeFault (s .control) (l .ss)) (faultOf s) (masterOf s (l .miso)))
@@ -86,4 +86,4 @@ steppedOf s l =
 
 -- the SCK level is kept at every clock
 abbrev pub clockOf : Spi → Levels → Spi
-clockOf s l = withSck (steppedOf s l) (l .sck)
+clockOf s l = withSck (byModeOf s l) (l .sck)

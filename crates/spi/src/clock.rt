@@ -9,7 +9,7 @@ use shifter::Shifter;
 use shifter::next_edge;
 ghost use mathlib.Core.Path.{_≡_};
 ghost use Rattle.spi.specs.Means.{withTransfer, withMiso, withSck};
-ghost use Rattle.spi.specs.Clock.{masterEdge, masterOf, masterClock, faultOf, isSckEdge, presentedOf, slaveEdge, selectedOf, slaveOf, steppedOf, clockOf};
+ghost use Rattle.spi.specs.Clock.{masterEdge, masterOf, masterClock, faultOf, isSckEdge, presentedOf, slaveEdge, selectedOf, slaveOf, byModeOf, clockOf};
 
 // The levels of the pins at a clock.
 pub struct Levels {
@@ -124,8 +124,8 @@ impl Spi {
             }
             Edged::Complete(r) => {
                 let f = self.flags.raised();
-                self.transfer.shift = r.shift;
                 self.transfer.received = r.shift;
+                self.transfer.shift = r.shift;
                 self.transfer.edges = 0;
                 self.transfer.left.0 = 0;
                 self.flags = f;
@@ -170,7 +170,7 @@ impl Spi {
     }
 
     fn stepped(self, l: Levels) -> Spi
-        ensures { λ r. ⌜ r ≡ steppedOf self l ⌝ }
+        ensures { λ r. ⌜ r ≡ byModeOf self l ⌝ }
     {
         let c = self.control;
         if c.enabled() {

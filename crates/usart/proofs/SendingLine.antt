@@ -462,7 +462,7 @@ pub sends : (u : Usart) (es : List Event) → MaySend u es → Sends u (takenOf 
 sends u es h =
     let f : Format = u .format in
     let ts : List Taken = ahead 0 (u .sender .buffer) (takenOf 0 u es) in
-    let r = claim u es [] 0 0 u (record { format = refl; rate = refl; txen = h .atRest .enabled }) (phase-first (u .baud)) (resting (h .atRest .resting) (omega arith)) (h .buffer) (h .onlyData) in
+    let r = claim u es [] 0 0 u (record { format = refl; rate = refl; txen = h .ready .enabled }) (phase-first (u .baud)) (resting (h .ready .resting) (omega arith)) (h .buffer) (h .onlyData) in
     let e : 0 + length (outputsOf u es) ≡ length (outputsOf u es) = omega arith in
     record {
       fits = r .fits;

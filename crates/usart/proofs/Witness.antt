@@ -41,7 +41,7 @@ witness = record {
 pub sender-witness : MaySend loaded handed
 unfolding loaded clocks handed
 sender-witness = record {
-  atRest = record { enabled = refl; resting = refl };
+  ready = record { enabled = refl; resting = refl };
   buffer = lit< tt;
   onlyData = (clash refl, (clash refl, tt));
 }

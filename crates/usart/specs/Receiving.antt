@@ -7,13 +7,13 @@ use lib.Dec.{eqb, ltb}
 use lib.ListN.{length}
 use Rattle.choice.specs.Bit.{bitAt}
 use Rattle.choice.specs.Pick.{pick, digit}
-use Rattle.frame.specs.Format.{samples, wordBits}
+use Rattle.frame.specs.Format.{wordBits}
 use Rattle.frame.specs.declared.format.Format.{Format}
 use Rattle.usart.specs.Limit.{limit, Within}
 use Rattle.usart.specs.Baud.{ticks}
 use Rattle.usart.specs.Sampler.{samplerOf}
 use Rattle.usart.specs.Queue.{heldIn}
-use Rattle.usart.specs.Unit.{clockOf}
+use Rattle.usart.specs.Unit.{bitLength, clockOf}
 use Rattle.usart.specs.Read.{readOf}
 use Rattle.usart.specs.Event.{Event, clock, write, read, vector, nextOf, isUdr0, OnlyData, levelsOf}
 use Rattle.usart.specs.Line.{Sent, lineLevel, Fits, Spaced, EndedBy, Shows}
@@ -58,7 +58,7 @@ Free u (vector ∷ es) = Free (nextOf u vector) es
 pub record LineOn (P Q : ℕ) (fs : List Sent) (f : Format) (ubrr : ℕ) (levels : List Bool) : Type 0 where
   pub p1 : 1 ≤ P
   pub q1 : 1 ≤ Q
-  pub within : Within (limit (f .u2x) (wordBits f)) (samples f * (ubrr + 1) * Q) P
+  pub within : Within (limit (f .u2x) (wordBits f)) (bitLength f ubrr * Q) P
   pub fits : Fits f fs
   pub spaced : Spaced (wordBits f) P Q fs
   pub shows : Shows (lineLevel f P Q fs) 0 levels

@@ -20,13 +20,13 @@ use Rattle.usart.specs.declared.sender.ShiftRegister.the-variants.{Resti
 use Rattle.usart.specs.declared.unit.Usart.{Usart}
 
 -- enabled, nothing in shift; the buffer may hold a frame; any baud counter
-pub record AtRest (u : Usart) : Type 0 where
+pub record ReadyToSend (u : Usart) : Type 0 where
   pub enabled : u .control .txen ≡ true
   pub resting : u .sender .shifter ≡ Resting
 
 -- so at first, and no serial register but UDR0 written
 pub record MaySend (u : Usart) (es : List Event) : Type 0 where
-  pub atRest : AtRest u
+  pub ready : ReadyToSend u
   pub buffer : ValidBuffer (u .format) (u .sender .buffer)
   pub onlyData : OnlyData u es
 

@@ -3,6 +3,7 @@ use Prim.Native.Nat.{ℕ, _+_, _*_}
 use mathlib.Core.Bool.{Bool, true, false, not}
 use Rattle.choice.specs.Pick.{pick, digit}
 use Rattle.frame.specs.Format.{samples}
+use Rattle.frame.specs.declared.format.Format.{Format}
 use Rattle.frame.specs.declared.format.Size.the-variants.{Eight}
 use Rattle.frame.specs.declared.format.Parity.the-variants.{Off}
 use Rattle.usart.specs.Baud.{ticks, baudOf}
@@ -53,8 +54,11 @@ clockOf u rxd =
     })
 
 -- a bit lasts S ticks, which are UBRR + 1 clocks apart
+abbrev pub bitLength : Format → ℕ → ℕ
+bitLength f ubrr = samples f * (ubrr + 1)
+
 abbrev pub bitClocks : Usart → ℕ
-bitClocks u = samples (u .format) * (u .baud .ubrr + 1)
+bitClocks u = bitLength (u .format) (u .baud .ubrr)
 
 -- TxD is driven with TXEN or frames left
 unfoldable pub isDriven : Usart → Bool

@@ -15,7 +15,7 @@ use Rattle.device.specs.declared.outcome.Written.the-variants.{Done, Refused}
 use Rattle.device.specs.declared.outcome.Reading.{Reading}
 use Rattle.device.specs.declared.outcome.Reading.the-variants.{Done as Value, Refused as NoValue}
 use Rattle.device.specs.declared.unit.Device.{Device}
-use Rattle.record.specs.Codec.{decodeOf, recordOf, storedOf}
+use Rattle.record.specs.Codec.{decodeOf, recordOf, storedOver}
 use Rattle.record.specs.declared.codec.Decoded.{Decoded}
 use Rattle.record.specs.declared.codec.Decoded.the-variants.{Accepted, Refused as NoDevice}
 use Rattle.record.proofs.Round.{decode-length, stored}
@@ -109,7 +109,7 @@ pub reset-refused : (s : List ℕ) {k n : ℕ} → (length s ≡ k → ⊥) → 
 unfolding resetOn
 reset-refused s h e r = rw (ne-eqb (length s) 64 (λ z. h (z ∙ sym e))) (r, refl)
 
-pub reset-done : (s : List ℕ) {s' : List ℕ} {d : Device} {k : ℕ} → length s ≡ k → k ≡ 64 → d ≡ resetDevice → s' ≡ storedOf d s
+pub reset-done : (s : List ℕ) {s' : List ℕ} {d : Device} {k : ℕ} → length s ≡ k → k ≡ 64 → d ≡ resetDevice → s' ≡ storedOver d s
     → (0 ≡ resetAnswer s) × (s' ≡ recordAfterReset s)
 unfolding resetOn
 reset-done s {s'} {d} h e hd hs = rw (eq-eqb (length s) 64 (h ∙ e)) (refl, hs ∙ stored d s (h ∙ e) ∙ ap recordOf hd)

@@ -5,12 +5,12 @@ use Rattle.device.specs.declared.outcome.Written.{Written}
 use Rattle.device.specs.declared.outcome.Written.the-variants.{Done, Refused}
 use Rattle.device.specs.declared.outcome.Reading.{Reading}
 use Rattle.device.specs.declared.outcome.Reading.the-variants.{Done as Value, Refused as NoValue}
-use Rattle.record.specs.Codec.{storedOf}
+use Rattle.record.specs.Codec.{storedOver}
 
 abbrev pub putBack : Written → List ℕ → List ℕ
-putBack (Done d) s = storedOf d s
+putBack (Done d) s = storedOver d s
 putBack (Refused r) s = s
 
 abbrev pub putBackRead : Reading → List ℕ → List ℕ
-putBackRead (Value v d) s = storedOf d s
+putBackRead (Value v d) s = storedOver d s
 putBackRead (NoValue r) s = s

@@ -1,18 +1,18 @@
 use Rattle.choice.proofs.Picks.{picks}
-use Rattle.record.specs.Parts.{placesOf}
+use Rattle.record.specs.Parts.{placesFrom}
 use Rattle.record.proofs.parts.places_of.Statement.{statement}
 use Rattle.record.proofs.parts.places_of.Tie as tie
 
 returns : tie.Need-returns
-unfolding placesOf
+unfolding placesFrom
 returns c = search picks
 
 returns-2 : tie.Need-returns-2
-unfolding placesOf
+unfolding placesFrom
 returns-2 c = search picks
 
 returns-3 : tie.Need-returns-3
-unfolding placesOf
+unfolding placesFrom
 returns-3 c = search picks
 
 pub places-of-spec : {M : Type 1} → statement M

@@ -1,12 +1,12 @@
 use mathlib.Core.Path.{ap, _∙_}
 use Rattle.record.specs.Lift.{setAt}
-use Rattle.record.specs.Parts.{samplerOf}
+use Rattle.record.specs.Parts.{samplerFrom}
 use borrow.Author.Needs.{needs}
 use Rattle.record.proofs.usart_lift.sampler_at.Statement.{statement}
 use Rattle.record.proofs.usart_lift.sampler_at.Tie as tie
 
 returns : tie.Need-returns
-returns c = c .sampler-of .ensures ∙ ap (samplerOf (setAt (c .before .before .args .t1) 23) (setAt (c .before .before .args .t1) 24)) (c .before .reception-at .ensures)
+returns c = c .sampler-of .ensures ∙ ap (samplerFrom (setAt (c .before .before .args .t1) 23) (setAt (c .before .before .args .t1) 24)) (c .before .reception-at .ensures)
 
 pub sampler-at-spec : {M : Type 1} → statement M
 sampler-at-spec =
