@@ -124,7 +124,8 @@ impl Spi {
             }
             Edged::Complete(r) => {
                 let f = self.flags.raised();
-                self.transfer.received = r.shift;
+                let byte = r.shift;
+                self.transfer.received = byte;
                 self.transfer.shift = r.shift;
                 self.transfer.edges = 0;
                 self.transfer.left.0 = 0;
