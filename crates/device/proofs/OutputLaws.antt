@@ -9,7 +9,7 @@ use Rattle.usart.proofs.OutputLaws.{output-bits as serial-bits, requests-lt as 
 use Rattle.spi.specs.Unit.{outputOf as spiOutput, requestsOf as spiRequests}
 use Rattle.spi.specs.declared.unit.Spi.{Spi}
 use Rattle.spi.proofs.OutputLaws.{output-bits as spi-bits, requests-le as spi-le}
-use Rattle.device.specs.Output.{txdBits}
+use Rattle.device.specs.Unit.{txdBits}
 use Rattle.device.specs.Unit.{levelsIn, outputOf, requestsOf}
 use Rattle.device.specs.declared.unit.Device.{Device}
 

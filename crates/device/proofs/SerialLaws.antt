@@ -7,7 +7,7 @@ use lib.Dec.{eqb}
 use Rattle.choice.specs.Pick.{pick}
 use borrow.Author.Tests.{eqb-true}
 use Rattle.choice.proofs.Picks.{pick-ind, pick-split}
-use Rattle.usart.specs.Event.{Event, write, read, vector, settled as serialSettled, finalOf, levelsOf}
+use Rattle.usart.specs.Event.{Event, write, read, vector, settled as serialSettled, finalOf, levelsOf, isUdr0}
 use Rattle.usart.specs.Sending.{outputsOf as serialOutputs}
 use Rattle.usart.specs.Write.{writeOf as serialWriteOf, vectorOf as serialVectorOf}
 use Rattle.usart.specs.declared.write.Register.{Register}
@@ -19,17 +19,23 @@ use Rattle.spi.specs.declared.register.Written.{Written as SpiWritten}
 use Rattle.spi.specs.declared.register.Written.the-variants.{Done as SpiDone, Refused as SpiRefused}
 use Rattle.device.specs.Outcome.{settled, readSettled}
 use Rattle.device.specs.Address.{placeOf}
-use Rattle.device.specs.Output.{txdBits}
+use Rattle.device.specs.Unit.{txdBits}
 use Rattle.device.specs.Unit.{rxdIn, clockOf}
 use Rattle.device.specs.Register.{serialWritten, spiWritten, writeIn, writeOf, readIn, readOf, vectorOf}
 use Rattle.device.specs.Run.{ranOf, outputsOf}
-use Rattle.device.specs.Serial.{isData, clocksOf, writesAt, readsAt, vectorsAt}
+use Rattle.device.specs.Serial.{clocksOf, writesAt, readsAt, vectorsAt}
 use Rattle.device.specs.declared.outcome.Written.the-variants.{Refused}
 use Rattle.answer.specs.declared.Refusal.the-variants.{Unknown}
 use Rattle.device.specs.declared.address.Place.{Place}
 use Rattle.device.specs.declared.address.Place.the-variants.{Serial, Spi, Nowhere}
 use Rattle.device.specs.declared.unit.Device.{Device}
 use Rattle.device.proofs.OutputLaws.{output-serial}
+
+-- the place of UDR0, the data register
+abbrev pub isData : Place → Bool
+isData (Serial r) = isUdr0 r
+isData (Spi r) = false
+isData Nowhere = false
 
 -- the data register's address is UDR0's
 elsewhere : (a k : ℕ) (p q : Place) → eqb k 0xC6 ≡ false → isData p ≡ false → isData q ≡ eqb a 0xC6 → isData (pick (eqb a k) p q) ≡ eqb a 0xC6

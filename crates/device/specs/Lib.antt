@@ -1,7 +1,6 @@
 pub mod Outcome
 pub mod Address
 pub mod Unit
-pub mod Output
 pub mod Bytes
 pub mod Register
 pub mod Run

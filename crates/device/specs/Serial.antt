@@ -4,7 +4,7 @@ use mathlib.Core.Bool.{Bool, true, false}
 use mathlib.Core.List.{List, [], _∷_}
 use lib.Dec.{eqb}
 use Rattle.choice.specs.Pick.{pick}
-use Rattle.usart.specs.Event.{Event, clock, write, read, vector, isUdr0}
+use Rattle.usart.specs.Event.{Event, clock, write, read, vector}
 use Rattle.device.specs.Unit.{rxdIn}
 use Rattle.device.specs.declared.address.Place.{Place}
 use Rattle.device.specs.declared.address.Place.the-variants.{Serial, Spi, Nowhere}
@@ -14,12 +14,6 @@ abbrev pub isSerial : Place → Bool
 isSerial (Serial r) = true
 isSerial (Spi r) = false
 isSerial Nowhere = false
-
--- .. of which UDR0 is the data register
-abbrev pub isData : Place → Bool
-isData (Serial r) = isUdr0 r
-isData (Spi r) = false
-isData Nowhere = false
 
 -- the clocks of a run
 abbrev pub clocksOf : List ℕ → List Event

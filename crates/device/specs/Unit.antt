@@ -1,5 +1,5 @@
--- The device at reset, at a clock, its output byte and its requests (document 01, 'SPI': level byte and output byte; 'Receiver': requests).
-use Prim.Native.Nat.{ℕ, _+_, _/_, _%_}
+-- The device at reset and at a clock, its output byte and its requests (document 01, 'SPI', level byte; 'Receiver').
+use Prim.Native.Nat.{ℕ, _+_, _*_, _/_, _%_}
 use mathlib.Core.Bool.{Bool}
 use lib.Dec.{eqb}
 use Rattle.usart.specs.Unit.{resetUsart, clockOf as serialClock, outputOf as serialOutput, requestsOf as serialRequests}
@@ -38,6 +38,10 @@ clockOf d level = afterOf d (serialClock (d .usart) (rxdIn level)) (spiClock (d 
 -- output byte: TxD, MOSI, MISO, SCK in bits 0 to 3, driven marks in 4 to 7; SS at this clock is looked at for MISO
 abbrev pub outputOf : Device → ℕ → ℕ
 outputOf d level = serialOutput (d .usart) + spiOutput (d .spi) (levelsIn level .ss)
+
+-- its serial share: TxD in bit 0 and its driven mark in bit 4
+abbrev pub txdBits : ℕ → ℕ
+txdBits o = o % 2 + o / 16 % 2 * 16
 
 -- the output byte is that after the clock
 abbrev pub clockedOf : Device → ℕ → Clocked

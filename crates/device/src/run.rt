@@ -1,5 +1,5 @@
-// A run of clocks. The two units never look at each other, so a run goes through the level bytes once for each: the state of one unit is
-// small enough to stay in the processor's registers.
+// A run of clocks, unit by unit: the two never look at each other, and the state of one is small enough to stay in the
+// processor's registers.
 use crate::outcome::Written;
 use crate::serial_run::serial_clocks;
 use crate::spi_run::master_clocks;
@@ -13,8 +13,8 @@ ghost use lib.ListN.{length};
 ghost use Rattle.device.specs.Unit.{clockedOf};
 ghost use Rattle.device.specs.Run.{ranOf, outputsOf, areLevels, runOf, shown};
 
-// Whether no level byte has bit 5, 6 or 7 set. All are looked at, also after one that has: without a way out of the loop the compiler tests
-// many at a time.
+// Whether no level byte has bit 5, 6 or 7 set. All are looked at, also after one that has: with no way out of the loop
+// the compiler tests many at a time.
 fn are_levels(levels: &[u8]) -> bool
     ensures { λ r. ⌜ r ≡ areLevels (now (levels .entry)) ⌝ }
 {
@@ -45,8 +45,7 @@ impl Device {
         self.after(u, off_clocks(s, levels))
     }
 
-    // One clock, with the levels of the pins: a run of one. So each large function of a unit is called in one place, and the compiler puts
-    // it into the loops.
+    // One clock is a run of one: so each large function of a unit has one caller, and the compiler puts it into the loop.
     pub fn clock(self, level: u8) -> Clocked
         ensures { λ r. ⌜ r ≡ clockedOf self level ⌝ }
     {

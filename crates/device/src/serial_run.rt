@@ -1,4 +1,4 @@
-// The serial unit's part of a run: it goes through the level bytes, several at a time where clocks only count, and writes the output bytes.
+// The serial unit's part of a run: it writes the output bytes, for several clocks at once where they only count.
 use span::Span;
 use usart::Usart;
 ghost use mathlib.Core.Path.{_≡_};

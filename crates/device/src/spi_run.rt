@@ -1,5 +1,5 @@
-// The SPI's part of a run: it adds its bits to the output bytes that the serial unit has written. A master that no mode fault can reach keeps
-// its settings, so that the compiler looks at them once for the run; with SPE clear there is nothing to add.
+// The SPI's part of a run: its bits are added to the output bytes. A master that no mode fault can reach keeps its
+// settings, so that the compiler looks at them once for the run; with SPE clear there is nothing to add.
 use crate::unit::pin_levels;
 use spi::Spi;
 ghost use mathlib.Core.Path.{_≡_};

@@ -21,7 +21,8 @@ use Rattle.usart.proofs.AppendLaws.{levels-append, only-append, free-append, re
 use Rattle.device.specs.Address.{placeOf}
 use Rattle.device.specs.Outcome.{answerOf, valueOf}
 use Rattle.device.specs.Register.{serialWritten, writeIn}
-use Rattle.device.specs.Serial.{isSerial, isData, clocksOf, writesAt, readsAt}
+use Rattle.device.proofs.SerialLaws.{isData}
+use Rattle.device.specs.Serial.{isSerial, clocksOf, writesAt, readsAt}
 use Rattle.device.specs.Unit.{rxdIn}
 use Rattle.device.specs.declared.address.Place.{Place}
 use Rattle.device.specs.declared.address.Place.the-variants.{Serial, Spi, Nowhere}

@@ -18,8 +18,9 @@ use Rattle.usart.proofs.AppendLaws.{outputs-append, taken-append}
 use Rattle.usart.proofs.ReadLaws.{status, txb8-bit}
 use Rattle.usart.proofs.SendingLine.{outputs-length, sends as sends-at}
 use Rattle.device.specs.Address.{placeOf}
-use Rattle.device.specs.Output.{txdBits}
-use Rattle.device.specs.Serial.{isData, clocksOf, writesAt}
+use Rattle.device.specs.Unit.{txdBits}
+use Rattle.device.proofs.SerialLaws.{isData}
+use Rattle.device.specs.Serial.{clocksOf, writesAt}
 use Rattle.device.specs.Unit.{rxdIn}
 use Rattle.device.specs.declared.address.Place.{Place}
 use Rattle.device.specs.declared.address.Place.the-variants.{Serial, Spi, Nowhere}

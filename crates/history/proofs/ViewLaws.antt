@@ -11,7 +11,7 @@ use Rattle.usart.specs.declared.unit.Usart.{Usart}
 use Rattle.usart.specs.declared.write.Register.{Register}
 use Rattle.usart.proofs.AppendLaws.{final-append}
 use Rattle.device.specs.Address.{placeOf}
-use Rattle.device.specs.Output.{txdBits}
+use Rattle.device.specs.Unit.{txdBits}
 use Rattle.device.specs.Run.{outputsOf}
 use Rattle.device.specs.Serial.{clocksOf, writesAt, readsAt, vectorsAt}
 use Rattle.device.specs.declared.unit.Device.{Device}

@@ -8,7 +8,7 @@ use Rattle.choice.specs.Bit.{bitAt}
 use Rattle.choice.specs.Pick.{pick}
 use Rattle.frame.specs.Word.{dataOf}
 use Rattle.usart.specs.Sending.{ReadyToSend, Taken, takenAt}
-use Rattle.device.specs.Output.{txdBits}
+use Rattle.device.specs.Unit.{txdBits}
 use Rattle.device.specs.declared.unit.Device.{Device}
 use Rattle.record.specs.Codec.{decodeOf}
 use Rattle.record.specs.declared.codec.Decoded.the-variants.{Accepted}

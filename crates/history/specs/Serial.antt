@@ -8,7 +8,7 @@ use lib.Dec.{eqb}
 use Rattle.choice.specs.Pick.{pick}
 use Rattle.usart.specs.Event.{Event}
 use Rattle.device.specs.Address.{placeOf}
-use Rattle.device.specs.Output.{txdBits}
+use Rattle.device.specs.Unit.{txdBits}
 use Rattle.device.specs.declared.unit.Device.{Device}
 use Rattle.device.specs.Serial.{isSerial, clocksOf, writesAt, readsAt, vectorsAt}
 use Rattle.warpmagpie.specs.Calls.{resetAnswer, writeAnswer, readAnswer, readValue, vectorAnswer, requestsValue}

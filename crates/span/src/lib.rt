@@ -1,3 +1,2 @@
-// Clocks in a row, as a count that can't be taken for one of ticks, samples or bytes. What counts them, and what happens in them, is other
-// crates' matter.
+// Clocks in a row, as a count that can't be taken for one of ticks, samples or bytes.
 pub struct Span(pub usize);

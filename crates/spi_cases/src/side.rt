@@ -44,25 +44,19 @@ fn is_master(spcr: u8) -> bool {
 }
 
 impl Side {
-    fn put(self, spcr: u8) -> Side {
-        let b = self.socket;
-        let p = wired(b.pins, is_master(spcr), self.rest / 128 == 1);
-        Side {
-            socket: b.with_pins(p),
-            rest: self.rest % 128 * 2,
-            got: self.got,
-            edges: self.edges,
-        }
+    fn put(mut self, spcr: u8) -> Side {
+        let p = wired(self.socket.pins, is_master(spcr), self.rest / 128 == 1);
+        let b = self.socket.with_pins(p);
+        let rest = self.rest % 128 * 2;
+        self.socket = b;
+        self.rest = rest;
+        self
     }
 
-    fn taken(self, spcr: u8, output: u8) -> Side {
-        let b = self.socket;
-        Side {
-            socket: b,
-            rest: self.rest,
-            got: self.got % 128 * 2 + sent(is_master(spcr), output),
-            edges: self.edges,
-        }
+    fn taken(mut self, spcr: u8, output: u8) -> Side {
+        let got = self.got % 128 * 2 + sent(is_master(spcr), output);
+        self.got = got;
+        self
     }
 
     // What it does at an edge, with the output before it.
@@ -76,13 +70,10 @@ impl Side {
         self
     }
 
-    fn with_socket(self, b: Socket, edges: u8) -> Side {
-        Side {
-            socket: b,
-            rest: self.rest,
-            got: self.got,
-            edges: edges,
-        }
+    fn with_socket(mut self, b: Socket, edges: u8) -> Side {
+        self.socket = b;
+        self.edges = edges;
+        self
     }
 
     // A clock of a unit that is master: an edge is seen where SCK of the output turns.

@@ -4,11 +4,20 @@ use device::Reading;
 use device::Written;
 use record::Decoded;
 ghost use mathlib.Core.Path.{_≡_};
+ghost use Rattle.answer.specs.Number.{numberOf};
+ghost use Rattle.answer.specs.declared.Refusal.the-variants.{Record};
 ghost use Rattle.device.specs.Outcome.{answerOf, readAnswerOf, valueOf};
 ghost use Rattle.warpmagpie.specs.Calls.{resetAnswer, recordAfterReset, writeAnswer, recordAfterWrite, readAnswer, readValue, recordAfterRead, vectorAnswer, recordAfterVector, runAnswer, recordAfterRun, outputsAfterRun, requestsAnswer, requestsValue};
 ghost use Rattle.warpmagpie.specs.PutBack.{putBack, putBackRead};
 
-// Puts back what a write or a vector came to; a refusal leaves the record as it is.
+fn no_record() -> u8
+    ensures { λ r. ⌜ r ≡ numberOf Record ⌝ }
+{
+    let r = Refusal::Record;
+    r.number()
+}
+
+// Puts back what a write, a vector or a run came to; a refusal leaves the record as it is.
 fn settle(w: Written, image: &mut [u8]) -> u8
     ensures { λ r. ⌜ r ≡ answerOf w ⌝ }
     ensures { λ _. ⌜ now (image .exit) ≡ putBack w (now (image .entry)) ⌝ }
@@ -48,8 +57,7 @@ pub extern "C" fn warpmagpie_reset(image: &mut [u8]) -> u8
     ensures { λ _. ⌜ now (image .exit) ≡ recordAfterReset (now (image .entry)) ⌝ }
 {
     if image.len() != 64 {
-        let r = Refusal::Record;
-        return r.number();
+        return no_record();
     }
     record::store(Device::reset(), image);
     0
@@ -63,10 +71,7 @@ pub extern "C" fn warpmagpie_write(image: &mut [u8], address: u16, value: u8) ->
     let got = record::decode(image);
     match got {
         Decoded::Accepted(d) => settle(d.write(address, value), image),
-        Decoded::Refused => {
-            let r = Refusal::Record;
-            r.number()
-        }
+        Decoded::Refused => no_record(),
     }
 }
 
@@ -80,9 +85,8 @@ pub extern "C" fn warpmagpie_read(image: &mut [u8], address: u16, value: &mut u8
     match got {
         Decoded::Accepted(d) => settle_read(d.read(address), image, value),
         Decoded::Refused => {
-            let r = Refusal::Record;
             *value = 0;
-            r.number()
+            no_record()
         }
     }
 }
@@ -95,10 +99,7 @@ pub extern "C" fn warpmagpie_take_vector(image: &mut [u8], vector: u8) -> u8
     let got = record::decode(image);
     match got {
         Decoded::Accepted(d) => settle(d.take_vector(vector), image),
-        Decoded::Refused => {
-            let r = Refusal::Record;
-            r.number()
-        }
+        Decoded::Refused => no_record(),
     }
 }
 
@@ -111,10 +112,7 @@ pub extern "C" fn warpmagpie_run(image: &mut [u8], levels: &[u8], outputs: &mut 
     let got = record::decode(image);
     match got {
         Decoded::Accepted(d) => settle(d.run(levels, outputs), image),
-        Decoded::Refused => {
-            let r = Refusal::Record;
-            r.number()
-        }
+        Decoded::Refused => no_record(),
     }
 }
 
@@ -130,9 +128,8 @@ pub extern "C" fn warpmagpie_requests(image: &[u8], requests: &mut u8) -> u8
             0
         }
         Decoded::Refused => {
-            let r = Refusal::Record;
             *requests = 0;
-            r.number()
+            no_record()
         }
     }
 }

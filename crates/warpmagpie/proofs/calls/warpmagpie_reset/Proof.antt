@@ -5,7 +5,7 @@ use Rattle.warpmagpie.proofs.calls.warpmagpie_reset.Statement.{statemen
 use Rattle.warpmagpie.proofs.calls.warpmagpie_reset.Tie as tie
 
 returns : tie.Need-returns
-returns c = reset-refused _ (c .before .if1 .taken) refl (c .number .ensures)
+returns c = reset-refused _ (c .before .if1 .taken) refl (c .no-record .ensures)
 
 returns-2 : tie.Need-returns-2
 returns-2 c = reset-done _ (c .before .before .before .before .before .if1 .left) refl (c .before .before .before .before .reset .ensures) (c .before .before .store .ensures)

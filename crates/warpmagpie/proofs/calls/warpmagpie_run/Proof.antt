@@ -11,7 +11,7 @@ returns c =
     (c .before .before .settle .ensures .0) (c .before .before .settle .ensures .1) (c .before .before .before .before .before .before .run .ensures .1)
 
 returns-2 : tie.Need-returns-2
-returns-2 c = run-refused _ (c .before .before .before .decode .ensures) (c .before .enum-told .given .1) (c .number .ensures) _ _
+returns-2 c = run-refused _ (c .before .before .before .decode .ensures) (c .before .enum-told .given .1) (c .no-record .ensures) _ _
 
 pub warpmagpie-run-spec : {M : Type 1} → statement M
 warpmagpie-run-spec =
