@@ -1,5 +1,5 @@
--- Whether a device's fields are in their ranges, as tests, part by part: what `Valid` of the device says (proofs/RangeLaws.antt). That a
--- field of a byte is below 256 the code has from its type; it is a test here, where fields are numbers.
+-- A means, no rule: whether a device's fields are in their ranges, as tests, part by part: what `Valid` of the device
+-- says (proofs/RangeLaws.antt). That a field of a byte is below 256 is a test here, where fields are numbers.
 use Prim.Native.Nat.{ℕ, _+_, _^_}
 use mathlib.Core.Bool.{Bool, true, false, not, _&&_}
 use lib.Dec.{eqb, ltb, leb}

@@ -1,6 +1,6 @@
--- Which records are shown by some device: what each byte must be (docs/RECORD.md, 'range' and '0 when') for the record to be the image of
--- the device that it says. The ranges that `inRange` tests are not in it, nor a byte that may be anything. That these tests come to the
--- comparison with the image, which `decodeOf` speaks of, is `shown-image` in proofs/ShownLaws.antt.
+-- A means, no rule: which records are shown by some device, byte by byte (docs/RECORD.md, 'range' and '0 when'). The
+-- ranges that `inRange` tests are not in it, nor a byte that may be anything. That these tests come to the comparison
+-- with the image, which `decodeOf` speaks of, is `shown-image` in proofs/ShownLaws.antt.
 use Prim.Native.Nat.{ℕ, _+_}
 use mathlib.Core.Bool.{Bool, _&&_, _||_}
 use mathlib.Core.List.{List}

@@ -1,4 +1,4 @@
--- Means, not rules: the unit with one part put in its place, and a test whether two levels differ.
+-- A means, no rule: the unit with one part put in its place, and a test whether two levels differ.
 use mathlib.Core.Bool.{Bool, not}
 use Rattle.choice.specs.Pick.{pick}
 use Rattle.spi.specs.declared.control.Control.{Control}

@@ -1,4 +1,4 @@
--- What is put back over a record's bytes: on a record of 64 bytes it is what `kept` says.
+-- A means, no rule: what is put back over a record's bytes, which on 64 bytes is what `kept` says.
 use Prim.Native.Nat.{ℕ}
 use mathlib.Core.List.{List}
 use Rattle.device.specs.declared.outcome.Written.{Written}
