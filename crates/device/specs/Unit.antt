@@ -2,6 +2,7 @@
 use Prim.Native.Nat.{ℕ, _+_, _*_, _/_, _%_}
 use mathlib.Core.Bool.{Bool}
 use lib.Dec.{eqb}
+use Rattle.choice.specs.Bit.{isSet}
 use Rattle.usart.specs.Unit.{resetUsart, clockOf as serialClock, outputOf as serialOutput, requestsOf as serialRequests}
 use Rattle.usart.specs.declared.unit.Usart.{Usart}
 use Rattle.spi.specs.Unit.{resetSpi, outputOf as spiOutput, requestsOf as spiRequests}
@@ -30,7 +31,7 @@ rxdIn level = eqb (level % 2) 1
 
 abbrev pub levelsIn : ℕ → Levels
 levelsIn level =
-    record { miso = eqb (level / 2 % 2) 1; mosi = eqb (level / 4 % 2) 1; sck = eqb (level / 8 % 2) 1; ss = eqb (level / 16 % 2) 1 }
+    record { miso = isSet level 2; mosi = isSet level 4; sck = isSet level 8; ss = isSet level 16 }
 
 abbrev pub clockOf : Device → ℕ → Device
 clockOf d level = afterOf d (serialClock (d .usart) (rxdIn level)) (spiClock (d .spi) (levelsIn level))
