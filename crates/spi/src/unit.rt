@@ -72,8 +72,8 @@ impl Spi {
         }
     }
 
-    // The level of SCK that a master shows: at rest CPOL, and turned by each edge.
-    fn sck(self) -> bool
+    // The level of SCK by the edges that have passed: at rest CPOL, and turned by each edge.
+    pub fn sck(self) -> bool
         ensures { λ r. ⌜ r ≡ sckOf self ⌝ }
     {
         differs(self.transfer.edges % 2 == 1, self.control.cpol())
