@@ -10,7 +10,7 @@ use native.Mathlib.Decide.{decLt}
 use native.Mathlib.Omega.{arith}
 use lib.Dec.{leb, ltb, eqb}
 use lib.Pow.{mod-pow-add, pow-add}
-use borrow.Author.Tests.{le-leb, ltb-true, ltb-false, leb-true, leb-false, eqb-true, eqb-false, ne-eqb}
+use borrow.Author.Tests.{le-leb, ltb-true, ltb-false, leb-true, leb-false, eqb-true, eqb-false}
 use Rattle.choice.specs.Pick.{pick, digit}
 use Rattle.choice.proofs.Digits.{digit-odd}
 use Rattle.choice.proofs.Picks.{pick-ind, pick-split}
@@ -298,15 +298,15 @@ module _ (f : Format) (ubrr P Q : ℕ) (R : Rates (firstVote f) (ubrr + 1) P Q (
         inTime = vote-clock s j r e i (omega arith);
       }
 
-  -- a bit's last vote, by the level l, with the majority m
-  last-vote : (s : Sent) (ss : List Sent) (lo j : ℕ) (r : Reception) (e : ℕ) (l m : Bool) (e′ : ℕ) → From D P Q lo (s ∷ ss)
+  -- a bit's last vote, by the level l, with the majority m; what is then kept for votes does not matter
+  last-vote : (s : Sent) (ss : List Sent) (lo j : ℕ) (r : Reception) (e : ℕ) (a b l m : Bool) (e′ : ℕ) → From D P Q lo (s ∷ ss)
       → (i : InStep f M j 0 r e s) → r .sample .0 ≡ h + 1 → e′ ≤ 1 → (r .bit ≡ D + 1 → l ≡ true) → m ≡ bitIn s (r .bit)
-      → Good f ubrr M P Q j (s ∷ ss) e′ (decidedOf f (onward r (r .first) (r .second) (r .word)) l m)
+      → Good f ubrr M P Q j (s ∷ ss) e′ (decidedOf f (onward r a b (r .word)) l m)
   unfolding decidedOf
-  last-vote s ss lo j r e l m e′ fr i es h1 el em =
+  last-vote s ss lo j r e a b l m e′ fr i es h1 el em =
       let w : ℕ = wordOf f (s .«data») in
-      let goes : (x : ℕ) → (r .bit ≡ D + 1 → ⊥) → x ≡ partOf D w (r .bit) → InStep f M (suc j) ubrr (onward r (r .first) (r .second) x) e′ s =
-      λ x nb q. same-bit s j r e (r .first) (r .second) x e′ i (omega (arith, R.h4)) (λ eb. absurd (nb eb)) h1 (λ t. absurd (omega arith))
+      let goes : (x : ℕ) → (r .bit ≡ D + 1 → ⊥) → x ≡ partOf D w (r .bit) → InStep f M (suc j) ubrr (onward r a b x) e′ s =
+      λ x nb q. same-bit s j r e a b x e′ i (omega (arith, R.h4)) (λ eb. absurd (nb eb)) h1 (λ t. absurd (omega arith))
       (λ t. absurd (omega arith)) (λ t. absurd (omega arith)) (λ t. absurd (omega arith)) (λ _. q) in
       pick-ind (Good f ubrr M P Q j (s ∷ ss) e′) (eqb (r .bit) 0) _ _
       (λ t.
@@ -320,7 +320,7 @@ module _ (f : Format) (ubrr P Q : ℕ) (R : Rates (firstVote f) (ubrr + 1) P Q (
       let hb : r .bit ≤ D = leb-true (r .bit) D u in
       let eb : suc (r .bit - 1) ≡ r .bit = omega arith in
       let bit : m ≡ eqb (w / 2 ^ (r .bit - 1) % 2) 1 = em ∙ ap (bitIn s) (sym eb) ∙ word-bit D w (r .bit - 1) (omega arith) in
-      rw (shift-digit (onward r (r .first) (r .second) (r .word)) m)
+      rw (shift-digit (onward r a b (r .word)) m)
       (goes (r .word / 2 + digit m * 2 ^ (D - 1)) (λ q. omega arith)
       (ap (λ (x : ℕ). x / 2 + digit m * 2 ^ (D - 1)) (i .early (omega arith)) ∙ part-more D w (r .bit - 1) m (omega arith) bit ∙ ap (partOf D w) eb)))
       (λ u.
@@ -334,18 +334,17 @@ module _ (f : Format) (ubrr P Q : ℕ) (R : Rates (firstVote f) (ubrr + 1) P Q (
   vote-tick : (s : Sent) (ss : List Sent) (lo j : ℕ) (r : Reception) (e : ℕ) (n l : Bool) → From D P Q lo (s ∷ ss)
       → l ≡ turn n (lineLevel f P Q (s ∷ ss) j) → Allowed f (Receiving r) e n → (i : InStep f M j 0 r e s) → r .sample .0 + 1 < 2 * h
       → Good f ubrr M P Q j (s ∷ ss) (e + digit n) (votedOf f r (record { 0 = r .sample .0 + 1 }) l)
-  unfolding votedOf castOf
+  unfolding votedOf
   vote-tick s ss lo j r e n l fr el al i hs =
       pick-ind (Good f ubrr M P Q j (s ∷ ss) (e + digit n)) (eqb (r .sample .0 + 1) (h + 2)) _ _
       (λ t.
       let es : r .sample .0 ≡ h + 1 = omega (arith, eqb-true (r .sample .0 + 1) (h + 2) t) in
       let eb : l ≡ turn n (bitIn s (r .bit)) = vote-level s ss j r e n l el i (omega arith) (omega arith) in
       let h1 : e + digit n ≤ 1 = hit-one f r e n al (i .one) in
-      rw (ne-eqb (r .sample .0 + 1) h (λ q. omega arith), ne-eqb (r .sample .0 + 1) (h + 1) (λ q. omega arith))
-      (last-vote s ss lo j r e l (majorityOf (r .first) (r .second) l) (e + digit n) fr i es h1
+      last-vote s ss lo j r e _ _ l (majorityOf (r .first) (r .second) l) (e + digit n) fr i es h1
       (λ q. eb ∙ ap (λ (z : Bool). turn z (bitIn s (r .bit))) (hit-stop f r e n al q es) ∙ stop-bit D (wordOf f (s .«data»)) (r .bit) (omega arith))
       (majority-right (bitIn s (r .bit)) (r .first) (r .second) l
-      (omega (arith, i .second es, differs-turn (bitIn s (r .bit)) n l eb)))))
+      (omega (arith, i .second es, differs-turn (bitIn s (r .bit)) n l eb))))
       (λ t. plain-sample s ss j r e n l el al i hs (eqb-false (r .sample .0 + 1) (h + 2) t))
 
   busy-tick : (s : Sent) (ss : List Sent) (lo j : ℕ) (r : Reception) (e : ℕ) (n l : Bool) → From D P Q lo (s ∷ ss)

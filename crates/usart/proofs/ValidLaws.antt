@@ -1,5 +1,5 @@
 -- Every operation keeps the ranges, and reset has them.
-use mathlib.Core.Path.{_≡_, refl, sym, _∙_, ap}
+use mathlib.Core.Path.{_≡_, refl, _∙_, ap}
 use mathlib.Core.Bool.{Bool, true, false}
 use Prim.Native.Nat.{ℕ, _+_, _-_, _*_, _/_, _^_, _≤_, _<_}
 use native.Mathlib.Nat.{mod-lt}
@@ -18,7 +18,7 @@ use Rattle.frame.proofs.WordLaws.{word-lt}
 use Rattle.usart.specs.Baud.{ticks, leftOf, baudOf}
 use Rattle.usart.specs.Sender.{isVacant, isResting, bufferOf, acknowledgedOf, movedFrom, steppedOf, shiftedOn}
 use Rattle.usart.specs.Sender.{senderOf}
-use Rattle.usart.specs.Sampler.{isReceiving, idleOf, castOf, nextBitOf, shiftedOf, decidedOf, votedOf, sampledOf}
+use Rattle.usart.specs.Sampler.{isReceiving, idleOf, castAt, castOf, nextBitOf, shiftedOf, decidedOf, votedOf, sampledOf}
 use Rattle.usart.specs.Sampler.{samplerOf}
 use Rattle.usart.specs.Queue.{storedIn, takenFrom}
 use Rattle.usart.specs.Receiver.{frameOf, putOf, listenedOf, stopped, enabledOf}
@@ -54,12 +54,6 @@ use Rattle.usart.specs.declared.write.Register.{Register}
 use Rattle.usart.specs.declared.write.Written.{Written}
 use Rattle.usart.proofs.ReadLaws.{each-read}
 use Rattle.usart.proofs.WriteLaws.{Before, inA, inB, inC, Timing, inL, inH, Writes, each-write}
-
--- a sample of bit r is taken, its number is n: but for its votes it is r
-record Sampling (r : Reception) (n : Sample) (q : Reception) : Type 0 where
-  pub word : q .word ≡ r .word
-  pub bit : q .bit ≡ r .bit
-  pub sample : q .sample ≡ n
 
 valid-baud : (b : Baud) → ValidBaud b → ValidBaud (baudOf b)
 unfolding leftOf
@@ -101,26 +95,17 @@ module _ (f : Format) where
   }
   valid-idle false rxd = tt
 
-  cast-sampling : (r : Reception) (n : Sample) (rxd : Bool) → Sampling r n (castOf f r n rxd)
-  unfolding castOf
-  cast-sampling r n rxd =
-      pick-ind (Sampling r n) (eqb (n .0) (firstVote f)) _ _ (λ _. record { word = refl; bit = refl; sample = refl })
-      (λ _. pick-ind (Sampling r n) (eqb (n .0) (firstVote f + 1)) _ _
-      (λ _. record { word = refl; bit = refl; sample = refl })
-      (λ _. record { word = refl; bit = refl; sample = refl }))
+  -- a sample of bit r is taken, its number is n: valid where the stop bit's last vote is not yet cast
+  valid-at : (r : Reception) (n : Sample) (a b : Bool) → ValidReception f r → 1 ≤ n .0 → n .0 < samples f
+      → (r .bit ≡ wordBits f + 1 → n .0 ≤ firstVote f + 1) → ValidReception f (castAt r n a b)
+  valid-at r n a b v one h k = record { word = v .word; bit = v .bit; sample = h; start = λ _. one; stop = k }
 
-  -- .. and valid where the stop bit's last vote is not yet cast
   valid-cast : (r : Reception) (n : Sample) (rxd : Bool) → ValidReception f r → 1 ≤ n .0 → n .0 < samples f
       → (r .bit ≡ wordBits f + 1 → n .0 ≤ firstVote f + 1) → ValidReception f (castOf f r n rxd)
+  unfolding castOf
   valid-cast r n rxd v one h k =
-      let c = cast-sampling r n rxd in
-      record {
-        word = rw (c .word) (v .word);
-        bit = rw (c .bit) (v .bit);
-        sample = rw (c .sample) h;
-        start = λ _. rw (c .sample) one;
-        stop = λ e. rw (c .sample) (k (sym (c .bit) ∙ e));
-      }
+      pick-ind (ValidReception f) (eqb (n .0) (firstVote f)) _ _ (λ _. valid-at r n _ _ v one h k)
+      (λ _. pick-ind (ValidReception f) (eqb (n .0) (firstVote f + 1)) _ _ (λ _. valid-at r n _ _ v one h k) (λ _. valid-at r n _ _ v one h k))
 
   -- the last sample of a bit is no sample of the stop bit
   valid-next : (r : Reception) → ValidReception f r → samples f ≤ r .sample .0 + 1 → ValidReception f (nextBitOf f r)
@@ -159,12 +144,12 @@ module _ (f : Format) where
       let n : Sample = record { 0 = r .sample .0 + 1 } in
       pick-ind F (ltb (r .sample .0) (samples f - 1)) _ _
       (λ e.
-      let cast = valid-cast r n rxd v (omega arith) (omega (arith, ltb-true (r .sample .0) (samples f - 1) e)) in
+      let inner : r .sample .0 + 1 < samples f = omega (arith, ltb-true (r .sample .0) (samples f - 1) e) in
       pick-ind F (eqb (r .sample .0 + 1) (firstVote f + 2)) _ _
-      (λ g. valid-decided (castOf f r n rxd) rxd _ (λ l. cast (λ z. absurd (omega (arith, l, cast-sampling r n rxd .bit, z)))))
+      (λ g. valid-decided (castAt r n false false) rxd _ (λ l. valid-at r n false false v (omega arith) inner (λ z. absurd (omega arith))))
       (λ g.
       let o : r .sample .0 + 1 ≡ firstVote f + 2 → ⊥ = eqb-false (r .sample .0 + 1) (firstVote f + 2) g in
-      cast (λ z. omega (arith, v .stop z, o))))
+      valid-cast r n rxd v (omega arith) inner (λ z. omega (arith, v .stop z, o))))
       (λ e. valid-next r v (omega (arith, ltb-false (r .sample .0) (samples f - 1) e, samples-range f)))
 
   valid-sampler : (p : Sampler) (rxd : Bool) → ValidSampler f p → ValidSampler f (samplerOf f p rxd .sampler)

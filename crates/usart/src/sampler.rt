@@ -138,15 +138,18 @@ impl Reception {
         }
     }
 
-    // Sample n of the bit, which is not its last.
-    fn voted(self, f: Format, n: Sample, rxd: bool) -> Sampled
+    // Sample n of the bit, which is not its last. At the last vote the two that were kept are spent.
+    fn voted(mut self, f: Format, n: Sample, rxd: bool) -> Sampled
         ensures { λ r. ⌜ r ≡ votedOf f self n rxd ⌝ }
     {
-        let level = frame::majority(self.first, self.second, rxd);
-        let r = self.cast(f, n, rxd);
         if n.0 == f.first_vote() + 2 {
-            return r.decided(f, rxd, level);
+            let level = frame::majority(self.first, self.second, rxd);
+            self.sample = n;
+            self.first = false;
+            self.second = false;
+            return self.decided(f, rxd, level);
         }
+        let r = self.cast(f, n, rxd);
         Sampled {
             sampler: Sampler::Receiving(r),
             outcome: Outcome::Nothing,
