@@ -6,6 +6,7 @@ pub mod LimitLaws
 pub mod Rates
 pub mod LineLaws
 pub mod Noise
+pub mod ShiftLaws
 pub mod OneTick
 pub mod ReadLaws
 pub mod WriteLaws

@@ -20,7 +20,7 @@ use Rattle.frame.specs.Word.{wordOf, frameBit}
 use Rattle.frame.specs.declared.format.Format.{Format}
 use Rattle.frame.proofs.FormatLaws.{samples-half}
 use Rattle.frame.proofs.WordLaws.{start-bit, word-bit, stop-bit, word-lt}
-use Rattle.usart.specs.Sampler.{idleOf, castOf, nextBitOf, withWord, shiftedOf, decidedOf, votedOf, sampledOf}
+use Rattle.usart.specs.Sampler.{idleOf, castOf, nextBitOf, decidedOf, votedOf, sampledOf}
 use Rattle.usart.specs.Sampler.{samplerOf}
 use Rattle.usart.specs.Line.{Sent, lineLevel}
 use Rattle.usart.specs.declared.sampler.Reception.{Reception}
@@ -29,6 +29,7 @@ use Rattle.usart.specs.declared.sampler.Sampler.the-variants.{Idle, Rece
 use Rattle.usart.specs.declared.sampler.Outcome.{Outcome}
 use Rattle.usart.specs.declared.sampler.Outcome.the-variants.{Nothing, Complete}
 use Rattle.usart.specs.declared.sampler.Sampled.{Sampled}
+use Rattle.usart.proofs.ShiftLaws.{shift-digit}
 use Rattle.usart.proofs.Rates.{Rates, tick-short, vote-low, vote-high, vote-bit}
 use Rattle.usart.proofs.LineLaws.{From, before, within, quiet}
 use Rattle.usart.proofs.Noise.{turn, hits, Allowed, hit-one, hit-vote, hit-stop, hit-idle, differs, differs-turn}
@@ -277,12 +278,6 @@ module _ (f : Format) (ubrr P Q : ℕ) (R : Rates (firstVote f) (ubrr + 1) P Q (
       let a : j < t .start = lt-of-mul-lt-mul-right Q (omega (arith, fr .0)) in
       (q, omega arith)
 
-  -- a bit of the word comes in, as a number
-  shift-digit : (r : Reception) (m : Bool) → shiftedOf f r m ≡ withWord r (r .word / 2 + digit m * 2 ^ (D - 1))
-  unfolding shiftedOf
-  shift-digit r true = ap (withWord r) (omega arith)
-  shift-digit r false = ap (withWord r) (omega arith)
-
   -- the stop bit's last vote: the frame completes
   completes : (s : Sent) (j : ℕ) (r : Reception) (e : ℕ) (m : Bool) → (i : InStep f M j 0 r e s) → r .sample .0 ≡ h + 1 → r .bit ≡ D + 1
       → m ≡ true → Completes f P Q j s (r .word) m
@@ -320,7 +315,7 @@ module _ (f : Format) (ubrr P Q : ℕ) (R : Rates (firstVote f) (ubrr + 1) P Q (
       let hb : r .bit ≤ D = leb-true (r .bit) D u in
       let eb : suc (r .bit - 1) ≡ r .bit = omega arith in
       let bit : m ≡ eqb (w / 2 ^ (r .bit - 1) % 2) 1 = em ∙ ap (bitIn s) (sym eb) ∙ word-bit D w (r .bit - 1) (omega arith) in
-      rw (shift-digit (onward r a b (r .word)) m)
+      rw (shift-digit f (onward r a b (r .word)) m)
       (goes (r .word / 2 + digit m * 2 ^ (D - 1)) (λ q. omega arith)
       (ap (λ (x : ℕ). x / 2 + digit m * 2 ^ (D - 1)) (i .early (omega arith)) ∙ part-more D w (r .bit - 1) m (omega arith) bit ∙ ap (partOf D w) eb)))
       (λ u.

@@ -1,25 +1,26 @@
 -- Every operation keeps the ranges, and reset has them.
-use mathlib.Core.Path.{_≡_, refl, _∙_, ap}
+use mathlib.Core.Path.{_≡_, refl, sym, _∙_}
 use mathlib.Core.Bool.{Bool, true, false}
-use Prim.Native.Nat.{ℕ, _+_, _-_, _*_, _/_, _^_, _≤_, _<_}
-use native.Mathlib.Nat.{mod-lt}
+use Prim.Native.Nat.{ℕ, _+_, _-_, _*_, _/_, _%_, _^_, _≤_, _<_}
+use native.Mathlib.Nat.{mod-lt, zero-mod}
 use native.Mathlib.Omega.{arith}
 use lib.Dec.{eqb, ltb, leb, lit<, lit≤}
-use lib.Pow.{pow-pos, pow-mono, pow-add}
-use borrow.Author.Tests.{eqb-true, eqb-false, ltb-true, ltb-false, leb-true}
+use lib.Pow.{pow-pos, pow-mono}
+use borrow.Author.Tests.{eqb-true, eqb-false, ltb-true, ltb-false, leb-true, lt-ltb, le-ltb}
 use Rattle.choice.specs.Bit.{isSet}
 use Rattle.choice.specs.Pick.{pick, digit}
-use Rattle.choice.proofs.Picks.{pick-ind, clash}
+use Rattle.choice.proofs.Picks.{pick-ind, split, clash}
 use Rattle.frame.specs.Format.{samples, firstVote, dataBits, wordBits, lastBit}
+use Rattle.frame.specs.Vote.{majorityOf}
 use Rattle.frame.specs.Word.{dataOf}
 use Rattle.frame.specs.declared.format.Format.{Format}
-use Rattle.frame.proofs.FormatLaws.{samples-range, word-bits-range, data-bits-range}
-use Rattle.frame.proofs.WordLaws.{word-lt}
+use Rattle.frame.proofs.FormatLaws.{samples-half, samples-range, first-vote-range, word-bits-range, data-bits-range}
+use Rattle.frame.proofs.WordLaws.{word-again}
 use Rattle.usart.specs.Baud.{ticks, leftOf, baudOf}
 use Rattle.usart.specs.Sender.{isVacant, isResting, bufferOf, acknowledgedOf, movedFrom, steppedOf, shiftedOn}
 use Rattle.usart.specs.Sender.{senderOf}
-use Rattle.usart.specs.Sampler.{isReceiving, idleOf, castAt, castOf, nextBitOf, shiftedOf, decidedOf, votedOf, sampledOf}
-use Rattle.usart.specs.Sampler.{samplerOf}
+use Rattle.usart.specs.Sampler.{isReceiving, idleOf, castAt, castOf, nextBitOf, withWord, decidedOf, votedOf}
+use Rattle.usart.specs.Sampler.{sampledOf, samplerOf}
 use Rattle.usart.specs.Queue.{storedIn, takenFrom}
 use Rattle.usart.specs.Receiver.{frameOf, putOf, listenedOf, stopped, enabledOf}
 use Rattle.usart.specs.Unit.{resetUsart, isBusy, clockOf, txcRequested}
@@ -53,7 +54,14 @@ use Rattle.usart.specs.declared.unit.Usart.{Usart}
 use Rattle.usart.specs.declared.write.Register.{Register}
 use Rattle.usart.specs.declared.write.Written.{Written}
 use Rattle.usart.proofs.ReadLaws.{each-read}
+use Rattle.usart.proofs.ShiftLaws.{shift-digit, shift-lt, rest-start, rest-shifted}
 use Rattle.usart.proofs.WriteLaws.{Before, inA, inB, inC, Timing, inL, inH, Writes, each-write}
+
+-- a count that goes on by one, not to v, stays below v or not
+same-side : (n v : ℕ) → (n + 1 ≡ v → ⊥) → ltb (n + 1) v ≡ ltb n v
+same-side n v o = split (ltb n v)
+    (λ e. lt-ltb (n + 1) v (omega (arith, ltb-true n v e, o)) ∙ sym e)
+    (λ e. le-ltb (n + 1) v (omega (arith, ltb-false n v e)) ∙ sym e)
 
 valid-baud : (b : Baud) → ValidBaud b → ValidBaud (baudOf b)
 unfolding leftOf
@@ -65,7 +73,7 @@ valid-baud b v = record {
 module _ (f : Format) where
   valid-moved : (b : Buffer) (kept txc : Bool) → ValidSender f (movedFrom f b kept txc)
   valid-moved Vacant kept txc = record { buffer = tt; shifter = tt }
-  valid-moved (Full d) kept txc = record { buffer = tt; shifter = record { word = word-lt f d; bit = omega arith; sample = omega (arith, samples-range f) } }
+  valid-moved (Full d) kept txc = record { buffer = tt; shifter = record { word = word-again f d; bit = omega arith; sample = omega (arith, samples-range f) } }
 
   valid-stepped : (s : Sender) (t : Transmission) → ValidBuffer f (s .buffer) → ValidTransmission f t → ValidSender f (steppedOf f s t)
   unfolding steppedOf
@@ -92,25 +100,17 @@ module _ (f : Format) where
     sample = omega (arith, samples-range f);
     start = λ _. lit≤ tt;
     stop = λ z. absurd (omega arith);
+    rest = zero-mod _;
+    first = λ z. clash z refl;
+    second = λ z. clash z refl;
   }
   valid-idle false rxd = tt
-
-  -- a sample of bit r is taken, its number is n: valid where the stop bit's last vote is not yet cast
-  valid-at : (r : Reception) (n : Sample) (a b : Bool) → ValidReception f r → 1 ≤ n .0 → n .0 < samples f
-      → (r .bit ≡ wordBits f + 1 → n .0 ≤ firstVote f + 1) → ValidReception f (castAt r n a b)
-  valid-at r n a b v one h k = record { word = v .word; bit = v .bit; sample = h; start = λ _. one; stop = k }
-
-  valid-cast : (r : Reception) (n : Sample) (rxd : Bool) → ValidReception f r → 1 ≤ n .0 → n .0 < samples f
-      → (r .bit ≡ wordBits f + 1 → n .0 ≤ firstVote f + 1) → ValidReception f (castOf f r n rxd)
-  unfolding castOf
-  valid-cast r n rxd v one h k =
-      pick-ind (ValidReception f) (eqb (n .0) (firstVote f)) _ _ (λ _. valid-at r n _ _ v one h k)
-      (λ _. pick-ind (ValidReception f) (eqb (n .0) (firstVote f + 1)) _ _ (λ _. valid-at r n _ _ v one h k) (λ _. valid-at r n _ _ v one h k))
 
   -- the last sample of a bit is no sample of the stop bit
   valid-next : (r : Reception) → ValidReception f r → samples f ≤ r .sample .0 + 1 → ValidReception f (nextBitOf f r)
   unfolding nextBitOf
   valid-next r v h =
+      let voted = le-ltb (r .sample .0) (firstVote f + 2) (omega (arith, samples-half f, first-vote-range f)) in
       pick-ind (ValidReception f) (leb (r .bit) (wordBits f)) _ _
       (λ e. record {
         word = v .word;
@@ -118,38 +118,92 @@ module _ (f : Format) where
         sample = omega (arith, samples-range f);
         start = λ z. absurd (omega arith);
         stop = λ _. omega arith;
+        rest = rw (lt-ltb 0 (firstVote f + 2) (omega arith)) (rw voted at (v .rest));
+        first = λ z. clash z refl;
+        second = λ z. clash z refl;
       })
       (λ e. v)
 
-  valid-shifted : (r : Reception) (m : Bool) → ValidReception f r → ValidReception f (shiftedOf f r m)
-  unfolding shiftedOf
-  valid-shifted r m v =
-      let D : ℕ = wordBits f in
-      let p : 2 ^ D ≡ 2 * 2 ^ (D - 1) = ap (λ (n : ℕ). 2 ^ n) (omega (arith, word-bits-range f)) ∙ pow-add 2 1 (D - 1) in
-      pick-ind (ValidReception f) m _ _
-      (λ e. record { word = rw p (omega (arith, v .word)); bit = v .bit; sample = v .sample; start = v .start; stop = v .stop })
-      (λ e. record { word = omega (arith, v .word); bit = v .bit; sample = v .sample; start = v .start; stop = v .stop })
+  -- one more sample of r, not its bit's last
+  module _ (r : Reception) (v : ValidReception f r) (inner : r .sample .0 + 1 < samples f) where
+    abbrev taken : Sample
+    taken = record { 0 = r .sample .0 + 1 }
 
-  valid-decided : (r : Reception) (rxd m : Bool) → (r .bit ≤ wordBits f → ValidReception f r) → ValidSampler f (decidedOf f r rxd m .sampler)
-  unfolding decidedOf
-  valid-decided r rxd m v =
-      let F : Sampled → Type 0 = λ o. ValidSampler f (o .sampler) in
-      pick-ind F (eqb (r .bit) 0) _ _ (λ e. pick-ind F m _ _ (λ g. tt) (λ g. v (omega (arith, eqb-true (r .bit) 0 e))))
-      (λ e. pick-ind F (leb (r .bit) (wordBits f)) _ _ (λ g. valid-shifted r m (v (leb-true (r .bit) (wordBits f) g))) (λ g. tt))
+    -- it is not the third vote: as many bits are decided as before
+    valid-plain : (a b : Bool) → (r .sample .0 + 1 ≡ firstVote f + 2 → ⊥)
+        → (a ≡ true → (firstVote f ≤ r .sample .0 + 1) × (r .sample .0 + 1 < firstVote f + 2))
+        → (b ≡ true → r .sample .0 + 1 ≡ firstVote f + 1) → ValidReception f (castAt r taken a b)
+    valid-plain a b o ha hb = record {
+      word = v .word;
+      bit = v .bit;
+      sample = inner;
+      start = λ _. omega arith;
+      stop = λ z. omega (arith, v .stop z, o);
+      rest = rw (same-side (r .sample .0) (firstVote f + 2) o) (v .rest);
+      first = ha;
+      second = hb;
+    }
+
+    valid-cast : (rxd : Bool) → (r .sample .0 + 1 ≡ firstVote f + 2 → ⊥) → ValidReception f (castOf f r taken rxd)
+    unfolding castOf
+    valid-cast rxd o =
+        pick-ind (ValidReception f) (eqb (r .sample .0 + 1) (firstVote f)) _ _
+        (λ e.
+        let one : r .sample .0 + 1 ≡ firstVote f = eqb-true (r .sample .0 + 1) (firstVote f) e in
+        valid-plain rxd (r .second) o (λ _. omega arith) (λ z. absurd (omega (arith, v .second z))))
+        (λ e. pick-ind (ValidReception f) (eqb (r .sample .0 + 1) (firstVote f + 1)) _ _
+        (λ g.
+        let two : r .sample .0 + 1 ≡ firstVote f + 1 = eqb-true (r .sample .0 + 1) (firstVote f + 1) g in
+        valid-plain (r .first) rxd o (λ _. omega arith) (λ _. two))
+        (λ g.
+        let no-one : r .sample .0 + 1 ≡ firstVote f → ⊥ = eqb-false (r .sample .0 + 1) (firstVote f) e in
+        let no-two : r .sample .0 + 1 ≡ firstVote f + 1 → ⊥ = eqb-false (r .sample .0 + 1) (firstVote f + 1) g in
+        valid-plain (r .first) (r .second) o (λ z. absurd (omega (arith, v .first z))) (λ z. absurd (omega (arith, v .second z)))))
+
+    -- it is the third vote: one bit more is decided, the word is w then, and the votes are spent
+    module _ (third : r .sample .0 + 1 ≡ firstVote f + 2) (a b : Bool) (ea : a ≡ false) (eb : b ≡ false) where
+      valid-spent : (w : ℕ) → r .bit ≤ wordBits f → w < 2 ^ wordBits f → w % 2 ^ (wordBits f + 1 - (r .bit + 1)) ≡ 0
+          → ValidReception f (withWord (castAt r taken a b) w)
+      valid-spent w h l z = record {
+        word = l;
+        bit = v .bit;
+        sample = inner;
+        start = λ _. omega arith;
+        stop = λ q. absurd (omega arith);
+        rest = rw (le-ltb (r .sample .0 + 1) (firstVote f + 2) (omega arith)) z;
+        first = λ q. clash q ea;
+        second = λ q. clash q eb;
+      }
+
+      valid-decided : (rxd m : Bool) → ValidSampler f (decidedOf f (castAt r taken a b) rxd m .sampler)
+      unfolding decidedOf
+      valid-decided rxd m =
+          let F : Sampled → Type 0 = λ o. ValidSampler f (o .sampler) in
+          let D : ℕ = wordBits f in
+          let low : r .word % 2 ^ (D + 1 - r .bit) ≡ 0 = rw (lt-ltb (r .sample .0) (firstVote f + 2) (omega arith)) at (v .rest) in
+          pick-ind F (eqb (r .bit) 0) _ _
+          (λ e. pick-ind F m _ _ (λ g. tt)
+          (λ g.
+          let h : r .bit ≤ D = omega (arith, eqb-true (r .bit) 0 e) in
+          valid-spent (r .word) h (v .word) (rest-start D (r .bit) (r .word) h low)))
+          (λ e. pick-ind F (leb (r .bit) D) _ _
+          (λ g.
+          let h : r .bit ≤ D = leb-true (r .bit) D g in
+          let o : r .bit ≡ 0 → ⊥ = eqb-false (r .bit) 0 e in
+          rw (shift-digit f (castAt r taken a b) m)
+          (valid-spent _ h (shift-lt D (r .word) m (omega (arith, word-bits-range f)) (v .word)) (rest-shifted D (r .bit) (r .word) h low m (omega arith))))
+          (λ g. tt))
 
   valid-sampled : (r : Reception) (rxd : Bool) → ValidReception f r → ValidSampler f (sampledOf f r rxd .sampler)
   unfolding sampledOf votedOf
   valid-sampled r rxd v =
       let F : Sampled → Type 0 = λ o. ValidSampler f (o .sampler) in
-      let n : Sample = record { 0 = r .sample .0 + 1 } in
       pick-ind F (ltb (r .sample .0) (samples f - 1)) _ _
       (λ e.
       let inner : r .sample .0 + 1 < samples f = omega (arith, ltb-true (r .sample .0) (samples f - 1) e) in
       pick-ind F (eqb (r .sample .0 + 1) (firstVote f + 2)) _ _
-      (λ g. valid-decided (castAt r n false false) rxd _ (λ l. valid-at r n false false v (omega arith) inner (λ z. absurd (omega arith))))
-      (λ g.
-      let o : r .sample .0 + 1 ≡ firstVote f + 2 → ⊥ = eqb-false (r .sample .0 + 1) (firstVote f + 2) g in
-      valid-cast r n rxd v (omega arith) inner (λ z. omega (arith, v .stop z, o))))
+      (λ g. valid-decided r v inner (eqb-true (r .sample .0 + 1) (firstVote f + 2) g) _ _ refl refl rxd (majorityOf (r .first) (r .second) rxd))
+      (λ g. valid-cast r v inner rxd (eqb-false (r .sample .0 + 1) (firstVote f + 2) g)))
       (λ e. valid-next r v (omega (arith, ltb-false (r .sample .0) (samples f - 1) e, samples-range f)))
 
   valid-sampler : (p : Sampler) (rxd : Bool) → ValidSampler f p → ValidSampler f (samplerOf f p rxd .sampler)

@@ -61,7 +61,7 @@ decidedOf f r rxd level =
     (pick (leb (r .bit) (wordBits f)) (still (Receiving (shiftedOf f r level)))
     (record { sampler = Idle rxd; outcome = Complete (r .word) level }))
 
--- sample n of a bit, not its last; at the third voting sample the majority decides, and the two that were kept are spent
+-- sample n of a bit, not its last; at the third voting sample the majority decides, and the two kept votes are spent
 unfoldable pub votedOf : Format → Reception → Sample → Bool → Sampled
 votedOf f r n rxd =
     pick (eqb (n .0) (firstVote f + 2)) (decidedOf f (castAt r n false false) rxd (majorityOf (r .first) (r .second) rxd))

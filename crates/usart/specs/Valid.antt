@@ -1,9 +1,12 @@
 -- The ranges of the unit's fields. Frames held for reading outlive a change of format, so their range is not bound by
 -- the present one; what the sender holds and a frame under way in the receiver are.
-use Prim.Native.Nat.{_+_, _^_, _<_, _≤_}
-use mathlib.Core.Bool.{false}
+use Prim.Native.Nat.{ℕ, _+_, _-_, _%_, _^_, _<_, _≤_}
+use mathlib.Core.Bool.{true, false}
 use mathlib.Core.Path.{_≡_}
+use lib.Dec.{ltb}
+use Rattle.choice.specs.Pick.{pick}
 use Rattle.frame.specs.Format.{samples, firstVote, dataBits, wordBits, lastBit}
+use Rattle.frame.specs.Word.{wordOf}
 use Rattle.frame.specs.declared.format.Format.{Format}
 use Rattle.usart.specs.Receiver.{stopped}
 use Rattle.usart.specs.declared.baud.Baud.{Baud}
@@ -31,8 +34,9 @@ abbrev pub ValidBuffer : Format → Buffer → Type 0
 ValidBuffer f Vacant = Unit {0}
 ValidBuffer f (Full d) = d < 2 ^ dataBits (f .size)
 
+-- the word is that of its data: of D bits, its parity bit right
 pub record ValidTransmission (f : Format) (t : Transmission) : Type 0 where
-  pub word : t .word < 2 ^ wordBits f
+  pub word : wordOf f (t .word) ≡ t .word
   pub bit : t .bit ≤ lastBit f
   pub sample : t .sample .0 < samples f
 
@@ -44,13 +48,21 @@ pub record ValidSender (f : Format) (s : Sender) : Type 0 where
   pub buffer : ValidBuffer f (s .buffer)
   pub shifter : ValidShifter f (s .shifter)
 
--- bits 0 to D + 1, the first stop bit; the start bit has its first sample, and the stop bit not yet its last vote
+-- bits of a frame that are decided, the start bit among them: a bit is so from its third vote on
+abbrev pub votedBits : Format → Reception → ℕ
+votedBits f r = pick (ltb (r .sample .0) (firstVote f + 2)) (r .bit) (r .bit + 1)
+
+-- bits 0 to D + 1, the first stop bit; the start bit has its first sample, and the stop bit not yet its last vote. Bits
+-- that have not come in are 0, and so are votes that are not cast yet or are spent
 pub record ValidReception (f : Format) (r : Reception) : Type 0 where
   pub word : r .word < 2 ^ wordBits f
   pub bit : r .bit ≤ wordBits f + 1
   pub sample : r .sample .0 < samples f
   pub start : r .bit ≡ 0 → 1 ≤ r .sample .0
   pub stop : r .bit ≡ wordBits f + 1 → r .sample .0 ≤ firstVote f + 1
+  pub rest : r .word % 2 ^ (wordBits f + 1 - votedBits f r) ≡ 0
+  pub first : r .first ≡ true → (firstVote f ≤ r .sample .0) × (r .sample .0 < firstVote f + 2)
+  pub second : r .second ≡ true → r .sample .0 ≡ firstVote f + 1
 
 abbrev pub ValidSampler : Format → Sampler → Type 0
 ValidSampler f (Idle last) = Unit {0}
