@@ -17,6 +17,7 @@ pub mod TickLaws
 pub mod SendingLine
 pub mod BusyLaws
 pub mod OneBit
+pub mod SamplerLaws
 pub mod ValidLaws
 pub mod OutputLaws
 pub mod AppendLaws

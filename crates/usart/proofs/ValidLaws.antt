@@ -1,26 +1,24 @@
 -- Every operation keeps the ranges, and reset has them.
-use mathlib.Core.Path.{_≡_, refl, sym, _∙_}
+use mathlib.Core.Path.{_≡_, refl}
 use mathlib.Core.Bool.{Bool, true, false}
-use Prim.Native.Nat.{ℕ, _+_, _-_, _*_, _/_, _%_, _^_, _≤_, _<_}
-use native.Mathlib.Nat.{mod-lt, zero-mod}
+use Prim.Native.Nat.{ℕ, _+_, _-_, _*_, _/_, _^_, _≤_, _<_}
+use native.Mathlib.Nat.{mod-lt}
 use native.Mathlib.Omega.{arith}
-use lib.Dec.{eqb, ltb, leb, lit<, lit≤}
+use lib.Dec.{eqb, ltb, lit<, lit≤}
 use lib.Pow.{pow-pos, pow-mono}
-use borrow.Author.Tests.{eqb-true, eqb-false, ltb-true, ltb-false, leb-true, lt-ltb, le-ltb}
+use borrow.Author.Tests.{ltb-true}
 use Rattle.choice.specs.Bit.{isSet}
 use Rattle.choice.specs.Pick.{pick, digit}
-use Rattle.choice.proofs.Picks.{pick-ind, split, clash}
-use Rattle.frame.specs.Format.{samples, firstVote, dataBits, wordBits, lastBit}
-use Rattle.frame.specs.Vote.{majorityOf}
+use Rattle.choice.proofs.Picks.{pick-ind, clash}
+use Rattle.frame.specs.Format.{samples, dataBits, lastBit}
 use Rattle.frame.specs.Word.{dataOf}
 use Rattle.frame.specs.declared.format.Format.{Format}
-use Rattle.frame.proofs.FormatLaws.{samples-half, samples-range, first-vote-range, word-bits-range, data-bits-range}
+use Rattle.frame.proofs.FormatLaws.{samples-range, data-bits-range}
 use Rattle.frame.proofs.WordLaws.{word-again}
 use Rattle.usart.specs.Baud.{ticks, leftOf, baudOf}
 use Rattle.usart.specs.Sender.{isVacant, isResting, bufferOf, acknowledgedOf, movedFrom, steppedOf, shiftedOn}
 use Rattle.usart.specs.Sender.{senderOf}
-use Rattle.usart.specs.Sampler.{isReceiving, idleOf, castAt, castOf, nextBitOf, withWord, decidedOf, votedOf}
-use Rattle.usart.specs.Sampler.{sampledOf, samplerOf}
+use Rattle.usart.specs.Sampler.{isReceiving, samplerOf}
 use Rattle.usart.specs.Queue.{storedIn, takenFrom}
 use Rattle.usart.specs.Receiver.{frameOf, putOf, listenedOf, stopped, enabledOf}
 use Rattle.usart.specs.Unit.{resetUsart, isBusy, clockOf, txcRequested}
@@ -29,22 +27,19 @@ use Rattle.usart.specs.Read.{readOf}
 use Rattle.usart.specs.Write.{withSender, formattedOf, txcCleared, timedOf, transmittedOf, writeOf, vectorOf}
 use Rattle.usart.specs.Event.{settled}
 use Rattle.usart.specs.Valid.{ValidBaud, ValidBuffer, ValidTransmission, ValidShifter, ValidSender}
-use Rattle.usart.specs.Valid.{ValidReception, ValidSampler, ValidPlaces, ValidReceiver, Valid}
+use Rattle.usart.specs.Valid.{ValidSampler, ValidPlaces, ValidReceiver, isInShift, Valid}
 use Rattle.usart.specs.declared.baud.Clocks.{Clocks}
 use Rattle.usart.specs.declared.baud.Baud.{Baud}
-use Rattle.usart.specs.declared.sample.Sample.{Sample}
 use Rattle.usart.specs.declared.sender.Buffer.{Buffer}
 use Rattle.usart.specs.declared.sender.Buffer.the-variants.{Vacant, Full}
 use Rattle.usart.specs.declared.sender.Transmission.{Transmission}
 use Rattle.usart.specs.declared.sender.ShiftRegister.{ShiftRegister}
 use Rattle.usart.specs.declared.sender.ShiftRegister.the-variants.{Resting, Sending}
 use Rattle.usart.specs.declared.sender.Sender.{Sender}
-use Rattle.usart.specs.declared.sampler.Reception.{Reception}
 use Rattle.usart.specs.declared.sampler.Sampler.{Sampler}
 use Rattle.usart.specs.declared.sampler.Sampler.the-variants.{Idle, Receiving}
 use Rattle.usart.specs.declared.sampler.Outcome.{Outcome}
 use Rattle.usart.specs.declared.sampler.Outcome.the-variants.{Nothing, Complete}
-use Rattle.usart.specs.declared.sampler.Sampled.{Sampled}
 use Rattle.usart.specs.declared.queue.Frame.{Frame}
 use Rattle.usart.specs.declared.queue.Places.{Places}
 use Rattle.usart.specs.declared.queue.Places.the-variants.{Empty, One, Two}
@@ -54,14 +49,8 @@ use Rattle.usart.specs.declared.unit.Usart.{Usart}
 use Rattle.usart.specs.declared.write.Register.{Register}
 use Rattle.usart.specs.declared.write.Written.{Written}
 use Rattle.usart.proofs.ReadLaws.{each-read}
-use Rattle.usart.proofs.ShiftLaws.{shift-digit, shift-lt, rest-start, rest-shifted}
+use Rattle.usart.proofs.SamplerLaws.{valid-sampler}
 use Rattle.usart.proofs.WriteLaws.{Before, inA, inB, inC, Timing, inL, inH, Writes, each-write}
-
--- a count that goes on by one, not to v, stays below v or not
-same-side : (n v : ℕ) → (n + 1 ≡ v → ⊥) → ltb (n + 1) v ≡ ltb n v
-same-side n v o = split (ltb n v)
-    (λ e. lt-ltb (n + 1) v (omega (arith, ltb-true n v e, o)) ∙ sym e)
-    (λ e. le-ltb (n + 1) v (omega (arith, ltb-false n v e)) ∙ sym e)
 
 valid-baud : (b : Baud) → ValidBaud b → ValidBaud (baudOf b)
 unfolding leftOf
@@ -69,6 +58,11 @@ valid-baud b v = record {
   ubrr = v .ubrr;
   left = pick-ind (λ (c : Clocks). c .0 < 4096) (eqb (b .left .0) 0) _ _ (λ e. v .ubrr) (λ e. omega (arith, v .left));
 }
+
+-- a tick loads the counter with UBRR, and any other clock lets it fall
+valid-counter : (b : Baud) → (ticks b ≡ false → b .left .0 ≤ b .ubrr) → baudOf b .left .0 ≤ b .ubrr
+unfolding leftOf
+valid-counter b h = pick-ind (λ (c : Clocks). c .0 ≤ b .ubrr) (ticks b) _ _ (λ e. omega arith) (λ e. omega (arith, h e))
 
 module _ (f : Format) where
   valid-moved : (b : Buffer) (kept txc : Bool) → ValidSender f (movedFrom f b kept txc)
@@ -91,126 +85,6 @@ module _ (f : Format) where
       by Resting vs = valid-moved (s .buffer) (s .txc) (s .txc)
       by (Sending t) vs = valid-stepped s t (v .buffer) vs
 
-  valid-idle : (last rxd : Bool) → ValidSampler f (idleOf last rxd .sampler)
-  unfolding idleOf
-  valid-idle true true = tt
-  valid-idle true false = record {
-    word = pow-pos (wordBits f);
-    bit = omega arith;
-    sample = omega (arith, samples-range f);
-    start = λ _. lit≤ tt;
-    stop = λ z. absurd (omega arith);
-    rest = zero-mod _;
-    first = λ z. clash z refl;
-    second = λ z. clash z refl;
-  }
-  valid-idle false rxd = tt
-
-  -- the last sample of a bit is no sample of the stop bit
-  valid-next : (r : Reception) → ValidReception f r → samples f ≤ r .sample .0 + 1 → ValidReception f (nextBitOf f r)
-  unfolding nextBitOf
-  valid-next r v h =
-      let voted = le-ltb (r .sample .0) (firstVote f + 2) (omega (arith, samples-half f, first-vote-range f)) in
-      pick-ind (ValidReception f) (leb (r .bit) (wordBits f)) _ _
-      (λ e. record {
-        word = v .word;
-        bit = omega (arith, leb-true (r .bit) (wordBits f) e);
-        sample = omega (arith, samples-range f);
-        start = λ z. absurd (omega arith);
-        stop = λ _. omega arith;
-        rest = rw (lt-ltb 0 (firstVote f + 2) (omega arith)) (rw voted at (v .rest));
-        first = λ z. clash z refl;
-        second = λ z. clash z refl;
-      })
-      (λ e. v)
-
-  -- one more sample of r, not its bit's last
-  module _ (r : Reception) (v : ValidReception f r) (inner : r .sample .0 + 1 < samples f) where
-    abbrev taken : Sample
-    taken = record { 0 = r .sample .0 + 1 }
-
-    -- it is not the third vote: as many bits are decided as before
-    valid-plain : (a b : Bool) → (r .sample .0 + 1 ≡ firstVote f + 2 → ⊥)
-        → (a ≡ true → (firstVote f ≤ r .sample .0 + 1) × (r .sample .0 + 1 < firstVote f + 2))
-        → (b ≡ true → r .sample .0 + 1 ≡ firstVote f + 1) → ValidReception f (castAt r taken a b)
-    valid-plain a b o ha hb = record {
-      word = v .word;
-      bit = v .bit;
-      sample = inner;
-      start = λ _. omega arith;
-      stop = λ z. omega (arith, v .stop z, o);
-      rest = rw (same-side (r .sample .0) (firstVote f + 2) o) (v .rest);
-      first = ha;
-      second = hb;
-    }
-
-    valid-cast : (rxd : Bool) → (r .sample .0 + 1 ≡ firstVote f + 2 → ⊥) → ValidReception f (castOf f r taken rxd)
-    unfolding castOf
-    valid-cast rxd o =
-        pick-ind (ValidReception f) (eqb (r .sample .0 + 1) (firstVote f)) _ _
-        (λ e.
-        let one : r .sample .0 + 1 ≡ firstVote f = eqb-true (r .sample .0 + 1) (firstVote f) e in
-        valid-plain rxd (r .second) o (λ _. omega arith) (λ z. absurd (omega (arith, v .second z))))
-        (λ e. pick-ind (ValidReception f) (eqb (r .sample .0 + 1) (firstVote f + 1)) _ _
-        (λ g.
-        let two : r .sample .0 + 1 ≡ firstVote f + 1 = eqb-true (r .sample .0 + 1) (firstVote f + 1) g in
-        valid-plain (r .first) rxd o (λ _. omega arith) (λ _. two))
-        (λ g.
-        let no-one : r .sample .0 + 1 ≡ firstVote f → ⊥ = eqb-false (r .sample .0 + 1) (firstVote f) e in
-        let no-two : r .sample .0 + 1 ≡ firstVote f + 1 → ⊥ = eqb-false (r .sample .0 + 1) (firstVote f + 1) g in
-        valid-plain (r .first) (r .second) o (λ z. absurd (omega (arith, v .first z))) (λ z. absurd (omega (arith, v .second z)))))
-
-    -- it is the third vote: one bit more is decided, the word is w then, and the votes are spent
-    module _ (third : r .sample .0 + 1 ≡ firstVote f + 2) (a b : Bool) (ea : a ≡ false) (eb : b ≡ false) where
-      valid-spent : (w : ℕ) → r .bit ≤ wordBits f → w < 2 ^ wordBits f → w % 2 ^ (wordBits f + 1 - (r .bit + 1)) ≡ 0
-          → ValidReception f (withWord (castAt r taken a b) w)
-      valid-spent w h l z = record {
-        word = l;
-        bit = v .bit;
-        sample = inner;
-        start = λ _. omega arith;
-        stop = λ q. absurd (omega arith);
-        rest = rw (le-ltb (r .sample .0 + 1) (firstVote f + 2) (omega arith)) z;
-        first = λ q. clash q ea;
-        second = λ q. clash q eb;
-      }
-
-      valid-decided : (rxd m : Bool) → ValidSampler f (decidedOf f (castAt r taken a b) rxd m .sampler)
-      unfolding decidedOf
-      valid-decided rxd m =
-          let F : Sampled → Type 0 = λ o. ValidSampler f (o .sampler) in
-          let D : ℕ = wordBits f in
-          let low : r .word % 2 ^ (D + 1 - r .bit) ≡ 0 = rw (lt-ltb (r .sample .0) (firstVote f + 2) (omega arith)) at (v .rest) in
-          pick-ind F (eqb (r .bit) 0) _ _
-          (λ e. pick-ind F m _ _ (λ g. tt)
-          (λ g.
-          let h : r .bit ≤ D = omega (arith, eqb-true (r .bit) 0 e) in
-          valid-spent (r .word) h (v .word) (rest-start D (r .bit) (r .word) h low)))
-          (λ e. pick-ind F (leb (r .bit) D) _ _
-          (λ g.
-          let h : r .bit ≤ D = leb-true (r .bit) D g in
-          let o : r .bit ≡ 0 → ⊥ = eqb-false (r .bit) 0 e in
-          rw (shift-digit f (castAt r taken a b) m)
-          (valid-spent _ h (shift-lt D (r .word) m (omega (arith, word-bits-range f)) (v .word)) (rest-shifted D (r .bit) (r .word) h low m (omega arith))))
-          (λ g. tt))
-
-  valid-sampled : (r : Reception) (rxd : Bool) → ValidReception f r → ValidSampler f (sampledOf f r rxd .sampler)
-  unfolding sampledOf votedOf
-  valid-sampled r rxd v =
-      let F : Sampled → Type 0 = λ o. ValidSampler f (o .sampler) in
-      pick-ind F (ltb (r .sample .0) (samples f - 1)) _ _
-      (λ e.
-      let inner : r .sample .0 + 1 < samples f = omega (arith, ltb-true (r .sample .0) (samples f - 1) e) in
-      pick-ind F (eqb (r .sample .0 + 1) (firstVote f + 2)) _ _
-      (λ g. valid-decided r v inner (eqb-true (r .sample .0 + 1) (firstVote f + 2) g) _ _ refl refl rxd (majorityOf (r .first) (r .second) rxd))
-      (λ g. valid-cast r v inner rxd (eqb-false (r .sample .0 + 1) (firstVote f + 2) g)))
-      (λ e. valid-next r v (omega (arith, ltb-false (r .sample .0) (samples f - 1) e, samples-range f)))
-
-  valid-sampler : (p : Sampler) (rxd : Bool) → ValidSampler f p → ValidSampler f (samplerOf f p rxd .sampler)
-  unfolding samplerOf
-  valid-sampler (Idle last) rxd v = valid-idle last rxd
-  valid-sampler (Receiving r) rxd v = valid-sampled r rxd v
-
   data-lt : (x : ℕ) → dataOf f x < 512
   data-lt x =
       let m : 2 ^ dataBits (f .size) ≤ 2 ^ 9 = pow-mono (data-bits-range (f .size) .1) in
@@ -229,7 +103,7 @@ module _ (f : Format) where
   unfolding listenedOf
   valid-listened rxen r rxd v =
       pick-ind (ValidReceiver f) rxen _ _
-      (λ e. record { sampler = valid-sampler (r .sampler) rxd (v .sampler); places = valid-put (r .queue) (samplerOf f (r .sampler) rxd .outcome) (v .places) })
+      (λ e. record { sampler = valid-sampler f (r .sampler) rxd (v .sampler); places = valid-put (r .queue) (samplerOf f (r .sampler) rxd .outcome) (v .places) })
       (λ e. v)
 
 pub valid-clock : (u : Usart) (rxd : Bool) → Valid u → Valid (clockOf u rxd)
@@ -241,8 +115,15 @@ valid-clock u rxd v =
       sender = valid-sender (u .format) (u .sender) (v .sender);
       receiver = valid-listened (u .format) (u .control .rxen) (u .receiver) rxd (v .receiver);
       disabled = λ d. rw d (v .disabled d);
+      counter = λ _. valid-counter (u .baud) (clash e);
     })
-    (λ e. record { baud = valid-baud (u .baud) (v .baud); sender = v .sender; receiver = v .receiver; disabled = v .disabled })
+    (λ e. record {
+      baud = valid-baud (u .baud) (v .baud);
+      sender = v .sender;
+      receiver = v .receiver;
+      disabled = v .disabled;
+      counter = λ i. valid-counter (u .baud) (λ _. v .counter i);
+    })
 
 valid-taken : (p : Places) → ValidPlaces p → ValidPlaces (takenFrom p)
 valid-taken Empty v = tt
@@ -256,6 +137,7 @@ valid-read u r v = each-read Valid u r (λ _. v)
       sender = v .sender;
       receiver = record { sampler = v .receiver .sampler; places = valid-taken (u .receiver .queue .places) (v .receiver .places) };
       disabled = λ d. rw (v .disabled d);
+      counter = v .counter;
     })
 
 pub valid-reset : Valid resetUsart
@@ -264,6 +146,7 @@ valid-reset = record {
   sender = record { buffer = tt; shifter = tt };
   receiver = record { sampler = tt; places = tt };
   disabled = λ _. refl;
+  counter = λ _. lit≤ tt;
 }
 
 -- the unit with no frame in shift, buffer or reception: any format will do
@@ -281,6 +164,9 @@ not-busy u e = by (isVacant (u .sender .buffer)) (isResting (u .sender .shifter)
     by true true ea eb h = record { vacant = ea; resting = eb; idle = h }
     by true false ea eb h = clash refl h
     by false b ea eb h = clash refl h
+
+clear-still : (u : Usart) → Clear u → isInShift u ≡ false
+clear-still u c = rw (c .resting) (c .idle)
 
 any-buffer : (f : Format) (b : Buffer) → isVacant b ≡ true → ValidBuffer f b
 any-buffer f Vacant e = tt
@@ -305,6 +191,7 @@ valid-formatted u v busy g vu vv c =
       sender = record { buffer = any-buffer g (v .sender .buffer) (c e .vacant); shifter = any-shifter g (v .sender .shifter) (c e .resting) };
       receiver = record { sampler = any-sampler g (v .receiver .sampler) (c e .idle); places = vv .receiver .places };
       disabled = vv .disabled;
+      counter = vv .counter;
     })
 
 valid-acknowledged : (u : Usart) → Valid u → Valid (withSender u (acknowledgedOf (u .sender)))
@@ -313,6 +200,7 @@ valid-acknowledged u v = record {
   sender = record { buffer = v .sender .buffer; shifter = v .sender .shifter };
   receiver = v .receiver;
   disabled = v .disabled;
+  counter = v .counter;
 }
 
 valid-enabled : (f : Format) (before after : Bool) (r : Receiver) → ValidReceiver f r → ValidReceiver f (enabledOf before after r)
@@ -332,6 +220,15 @@ idle-enabled before after r e =
     let F : Receiver → Type 0 = λ q. isReceiving (q .sampler) ≡ false in
     pick-ind F before _ _ (λ _. pick-ind F after _ _ (λ _. e) (λ _. refl)) (λ _. refl)
 
+-- so is a frame that is under way after a write of RXEN before it
+still-enabled : (s : ShiftRegister) (before after : Bool) (r : Receiver) → pick (isResting s) (isReceiving (enabledOf before after r .sampler)) true ≡ true
+    → pick (isResting s) (isReceiving (r .sampler)) true ≡ true
+unfolding enabledOf
+still-enabled Resting before after r =
+    let F : Receiver → Type 0 = λ q. isReceiving (q .sampler) ≡ true → isReceiving (r .sampler) ≡ true in
+    pick-ind F before _ _ (λ _. pick-ind F after _ _ (λ _ e. e) (λ _ e. clash e refl)) (λ _ e. clash e refl)
+still-enabled (Sending t) before after r = λ _. refl
+
 -- what a write to A, B or C leaves, before the format is set
 module _ (u : Usart) (x : ℕ) (v : Valid u) where
   valid-before : {w : Usart} → Before u x w → Valid w
@@ -342,6 +239,7 @@ module _ (u : Usart) (x : ℕ) (v : Valid u) where
     sender = v .sender;
     receiver = valid-enabled (u .format) (u .control .rxen) (isSet x 16) (u .receiver) (v .receiver);
     disabled = disabled-stopped (u .control .rxen) (isSet x 16) (u .receiver);
+    counter = λ i. v .counter (still-enabled (u .sender .shifter) (u .control .rxen) (isSet x 16) (u .receiver) i);
   }
   valid-before inC = v
 
@@ -360,7 +258,13 @@ valid-timed : (u : Usart) (b : Baud) → Valid u → ValidBaud b → Valid (sett
 unfolding timedOf
 valid-timed u b v vb =
     pick-ind (λ (w : Written). Valid (settled u w)) (isBusy u) _ _ (λ _. v)
-    (λ _. record { baud = vb; sender = v .sender; receiver = v .receiver; disabled = v .disabled })
+    (λ e. record {
+      baud = vb;
+      sender = v .sender;
+      receiver = v .receiver;
+      disabled = v .disabled;
+      counter = λ i. clash i (clear-still u (not-busy u e));
+    })
 
 valid-timing : (u : Usart) (x : ℕ) {b : Baud} → x < 256 → ValidBaud (u .baud) → Timing u x b → ValidBaud b
 valid-timing u x h v inL =
@@ -376,6 +280,7 @@ valid-d u x v =
       sender = record { buffer = by (u .sender .buffer) (v .sender .buffer); shifter = v .sender .shifter };
       receiver = v .receiver;
       disabled = v .disabled;
+      counter = v .counter;
     })
     (λ _. v)
   where

@@ -61,10 +61,14 @@ decidedOf f r rxd level =
     (pick (leb (r .bit) (wordBits f)) (still (Receiving (shiftedOf f r level)))
     (record { sampler = Idle rxd; outcome = Complete (r .word) level }))
 
--- sample n of a bit, not its last; at the third voting sample the majority decides, and the two kept votes are spent
+-- sample n is the third voting one: the two that were kept are spent
+abbrev pub spentOf : Reception → Sample → Reception
+spentOf r n = castAt r n false false
+
+-- sample n of a bit, not its last; at the third voting sample the majority decides
 unfoldable pub votedOf : Format → Reception → Sample → Bool → Sampled
 votedOf f r n rxd =
-    pick (eqb (n .0) (firstVote f + 2)) (decidedOf f (castAt r n false false) rxd (majorityOf (r .first) (r .second) rxd))
+    pick (eqb (n .0) (firstVote f + 2)) (decidedOf f (spentOf r n) rxd (majorityOf (r .first) (r .second) rxd))
     (still (Receiving (castOf f r n rxd)))
 
 -- a bit's samples are 1 to S

@@ -1,13 +1,15 @@
 -- The ranges of the unit's fields. Frames held for reading outlive a change of format, so their range is not bound by
 -- the present one; what the sender holds and a frame under way in the receiver are.
 use Prim.Native.Nat.{ℕ, _+_, _-_, _%_, _^_, _<_, _≤_}
-use mathlib.Core.Bool.{true, false}
+use mathlib.Core.Bool.{Bool, true, false}
 use mathlib.Core.Path.{_≡_}
 use lib.Dec.{ltb}
 use Rattle.choice.specs.Pick.{pick}
 use Rattle.frame.specs.Format.{samples, firstVote, dataBits, wordBits, lastBit}
 use Rattle.frame.specs.Word.{wordOf}
 use Rattle.frame.specs.declared.format.Format.{Format}
+use Rattle.usart.specs.Sender.{isResting}
+use Rattle.usart.specs.Sampler.{isReceiving}
 use Rattle.usart.specs.Receiver.{stopped}
 use Rattle.usart.specs.declared.baud.Baud.{Baud}
 use Rattle.usart.specs.declared.sender.Buffer.{Buffer}
@@ -24,7 +26,7 @@ use Rattle.usart.specs.declared.queue.Places.the-variants.{Empty, One, T
 use Rattle.usart.specs.declared.receiver.Receiver.{Receiver}
 use Rattle.usart.specs.declared.unit.Usart.{Usart}
 
--- UBRR0H does not load the counter, so one above UBRR is reached
+-- UBRR0H does not load the counter, so one above UBRR is reached, but in no frame: see Valid
 pub record ValidBaud (b : Baud) : Type 0 where
   pub ubrr : b .ubrr < 4096
   pub left : b .left .0 < 4096
@@ -77,9 +79,15 @@ pub record ValidReceiver (f : Format) (r : Receiver) : Type 0 where
   pub sampler : ValidSampler f (r .sampler)
   pub places : ValidPlaces (r .queue .places)
 
--- what is not in use is 0: a disabled receiver is idle, remembers low and holds nothing
+-- a frame is being sent or received
+abbrev pub isInShift : Usart → Bool
+isInShift u = pick (isResting (u .sender .shifter)) (isReceiving (u .receiver .sampler)) true
+
+-- what is not in use is 0: a disabled receiver is idle, remembers low and holds nothing. A frame begins at a tick, and
+-- the ticks of one under way are UBRR + 1 clocks apart, so no more are left to the next
 pub record Valid (u : Usart) : Type 0 where
   pub baud : ValidBaud (u .baud)
   pub sender : ValidSender (u .format) (u .sender)
   pub receiver : ValidReceiver (u .format) (u .receiver)
   pub disabled : u .control .rxen ≡ false → u .receiver ≡ stopped
+  pub counter : isInShift u ≡ true → u .baud .left .0 ≤ u .baud .ubrr
