@@ -220,7 +220,7 @@ idle-enabled before after r e =
     let F : Receiver → Type 0 = λ q. isReceiving (q .sampler) ≡ false in
     pick-ind F before _ _ (λ _. pick-ind F after _ _ (λ _. e) (λ _. refl)) (λ _. refl)
 
--- so is a frame that is under way after a write of RXEN before it
+-- a write of RXEN begins no frame
 still-enabled : (s : ShiftRegister) (before after : Bool) (r : Receiver) → pick (isResting s) (isReceiving (enabledOf before after r .sampler)) true ≡ true
     → pick (isResting s) (isReceiving (r .sampler)) true ≡ true
 unfolding enabledOf

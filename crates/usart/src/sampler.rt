@@ -4,8 +4,8 @@ ghost use mathlib.Core.Path.{_≡_};
 ghost use Rattle.usart.specs.Sampler.{idleOf, castOf, nextBitOf, shiftedOf, decidedOf, votedOf, sampledOf};
 ghost use Rattle.usart.specs.Sampler.{samplerOf, isReceiving};
 
-// A frame under way: the bit that is being sampled (0 is the start bit), samples of it taken, its first two votes, and
-// the bits received so far, shifted in at the top.
+// A frame under way: the bit that is being sampled (0 is the start bit), samples of it taken, its first two votes until
+// the third decides it, and the bits received so far, shifted in at the top.
 pub struct Reception {
     pub bit: u8,
     pub sample: Sample,
