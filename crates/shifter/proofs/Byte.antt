@@ -8,7 +8,7 @@ use native.Mathlib.Omega.{arith}
 use lib.Dec.{eqb}
 use lib.ListN.{length, take, drop}
 use lib.Seq.{take-append-le, drop-append-le}
-use borrow.Author.Tests.{eq-eqb, ne-eqb, lt-ltb}
+use borrow.Author.Tests.{eqb-false, eq-eqb, ne-eqb, lt-ltb}
 use Rattle.choice.specs.Pick.{pick}
 use Rattle.choice.proofs.Picks.{pick-ind, split, clash}
 use Rattle.shifter.specs.Order.{outBit, shiftedIn, bitsOf}
@@ -34,6 +34,15 @@ module _ (m : Mode) (r : Shifter) (k : ℕ) (i : Bool) where
   shift-kept : isSampling (m .cpha) k ≡ false → edgeOf m r k i .shift ≡ r .shift
   unfolding edgeOf
   shift-kept h = rw h (pick-ind (λ (x : Shifter). x .shift ≡ r .shift) (isPutting (m .cpha) k) _ _ (λ _. refl) (λ _. refl))
+
+  -- an edge that does not sample, but for the last, puts out the first bit
+  pub edge-puts : isSampling (m .cpha) k ≡ false → k < 16 → edgeOf m r k i .out ≡ outBit (m .dord) (edgeOf m r k i .shift)
+  unfolding edgeOf isSampling isPutting
+  edge-puts h l =
+      split (m .cpha)
+      (λ c. let even : eqb (k % 2) 0 ≡ false = rw c at h in rw (c, even, eq-eqb (k % 2) 1 (omega (arith, eqb-false (k % 2) 0 even))))
+      (λ c. let odd : eqb (k % 2) 1 ≡ false = rw c at h in
+      rw (c, odd, lt-ltb k 16 l, eq-eqb (k % 2) 0 (omega (arith, eqb-false (k % 2) 1 odd))))
 
   pub edge-lt : r .shift < 256 → edgeOf m r k i .shift < 256
   unfolding edgeOf

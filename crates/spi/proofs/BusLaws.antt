@@ -1,13 +1,13 @@
 -- The wires as the output bytes show them, and the edges that a slave sees on SCK.
-use Prim.Native.Nat.{ℕ, _+_, _*_, _%_}
+use Prim.Native.Nat.{ℕ, _+_, _*_, _%_, _≤_}
 use mathlib.Core.Bool.{Bool, true, false, not}
-use mathlib.Core.Path.{_≡_, refl}
+use mathlib.Core.Path.{_≡_, refl, sym, subst}
 use native.Mathlib.Omega.{arith}
 use lib.Dec.{eqb}
 use borrow.Author.Tests.{eqb-true, eqb-false, eq-eqb, ne-eqb}
 use Rattle.choice.specs.Pick.{pick, digit}
 use Rattle.choice.specs.Bit.{isSet}
-use Rattle.choice.proofs.Picks.{split}
+use Rattle.choice.proofs.Picks.{split, both, clash}
 use Rattle.spi.specs.Unit.{sckOf, pinOf, outputOf}
 use Rattle.spi.specs.Means.{differs}
 use Rattle.spi.specs.Clock.{isSckEdge}
@@ -63,3 +63,40 @@ next-odd k =
 pub level-turns : (cpol : Bool) (k : ℕ) → isSckEdge cpol k (levelAt cpol k) (levelAt cpol (k + 1)) ≡ true
 unfolding isSckEdge
 level-turns cpol k = rw (next-odd k) (turned cpol (eqb (k % 2) 1) (eqb k 0) (λ e. ne-eqb k 0 (λ q. omega (arith, eqb-true (k % 2) 1 e))))
+
+-- two levels that do not differ
+pub same-level : (a b : Bool) → differs a b ≡ false → b ≡ a
+unfolding differs
+same-level true true h = refl
+same-level false false h = refl
+same-level true false h = clash refl h
+same-level false true h = clash refl h
+
+-- what is seen to turn from the level after k edges is at the next one's
+turns : (sck odd cpol : Bool) → differs sck (differs odd cpol) ≡ true → sck ≡ differs (not odd) cpol
+unfolding differs
+turns true true true h = refl
+turns true true false h = clash h refl
+turns true false true h = clash h refl
+turns true false false h = refl
+turns false true true h = clash h refl
+turns false true false h = refl
+turns false false true h = refl
+turns false false false h = clash h refl
+
+module _ (cpol : Bool) (k : ℕ) (last sck : Bool) where
+  -- an edge that counts brings SCK to its level, whatever level was kept before the first
+  pub edge-turns : (1 ≤ k → last ≡ levelAt cpol k) → isSckEdge cpol k last sck ≡ true → sck ≡ levelAt cpol (k + 1)
+  unfolding isSckEdge differs
+  edge-turns h e =
+      let d : differs sck (levelAt cpol k) ≡ true =
+      split (eqb k 0) (λ z. rw (eqb-true k 0 z) (both (differs sck last) _ (rw z at e) .1))
+      (λ z. subst (λ (b : Bool). differs sck b ≡ true) (h (omega (arith, eqb-false k 0 z))) (both (differs sck last) _ (rw z at e) .0)) in
+      rw (next-odd k) (turns sck (eqb (k % 2) 1) cpol d)
+
+  -- within a byte every turn of SCK counts
+  pub level-stays : 1 ≤ k → isSckEdge cpol k last sck ≡ false → sck ≡ last
+  unfolding isSckEdge
+  level-stays l e =
+      let none : eqb k 0 ≡ false = ne-eqb k 0 (λ q. omega arith) in
+      split (differs sck last) (λ d. clash refl (rw (d, none) at e)) (λ d. sym (same-level sck last d))

@@ -19,15 +19,8 @@ use Rattle.spi.specs.Holding.{clockAt, heldOf, isPresented, slaveRests, 
 use Rattle.spi.specs.declared.clock.Levels.{Levels}
 use Rattle.spi.specs.declared.transfer.Transfer.{Transfer}
 use Rattle.spi.specs.declared.unit.Spi.{Spi}
+use Rattle.spi.proofs.BusLaws.{same-level}
 use Rattle.spi.proofs.Progress.{none-under-way}
-
--- two levels that do not differ
-same-level : (a b : Bool) → differs a b ≡ false → b ≡ a
-unfolding differs
-same-level true true h = refl
-same-level false false h = refl
-same-level true false h = clash refl h
-same-level false true h = clash refl h
 
 dropped-rests : (t : Transfer) → isUnderWay t ≡ false → droppedOf t ≡ t
 dropped-rests t h =

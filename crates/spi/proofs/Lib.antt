@@ -2,13 +2,14 @@ pub mod DivisorLaws
 pub mod ClockLaws
 pub mod EventLaws
 pub mod Progress
-pub mod ValidLaws
 pub mod DropLaws
 pub mod EdgeLaws
 pub mod MasterLaws
 pub mod WholeByte
 pub mod Transfers
 pub mod BusLaws
+pub mod PinLaws
+pub mod ValidLaws
 pub mod WiredLaws
 pub mod WiredTurns
 pub mod Witness

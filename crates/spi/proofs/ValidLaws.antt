@@ -1,4 +1,4 @@
--- Every operation keeps the ranges, and reset has them.
+-- Every operation keeps the ranges and what the pins show, and reset has them.
 use Prim.Native.Nat.{ℕ, _/_, _%_, _≤_, _<_}
 use mathlib.Core.Bool.{Bool, true, false, not}
 use mathlib.Core.Path.{_≡_, refl, sym, ap, _∙_}
@@ -12,22 +12,24 @@ use Rattle.shifter.specs.declared.Edged.{Edged}
 use Rattle.shifter.specs.declared.Mode.{Mode}
 use Rattle.shifter.proofs.Byte.{edge-lt}
 use Rattle.spi.specs.Control.{isEnabled, isMaster, cpolOf, modeOf, divisorNumber, half, withoutMstr, isModeFault}
-use Rattle.spi.specs.Means.{differs}
+use Rattle.spi.specs.Means.{differs, withControl, withFlags, withSck}
 use Rattle.spi.specs.Transfer.{isUnderWay, droppedOf, byteOf, edgedTransfer}
 use Rattle.spi.specs.Unit.{resetSpi, isRequested}
 use Rattle.spi.specs.Clock.{masterOf, faultOf, isSckEdge, selectedOf, slaveOf, byModeOf, clockOf}
 use Rattle.spi.specs.Register.{settled, writeSpcr, writeSpsr, filled, loadedOf, accessed, setDdrb, writeOf, readOf, vectorOf}
-use Rattle.spi.specs.Valid.{ValidTransfer, Valid}
+use Rattle.spi.specs.Valid.{ValidTransfer, ValidPins, Valid}
 use Rattle.spi.specs.declared.clock.Levels.{Levels}
 use Rattle.spi.specs.declared.control.Control.{Control}
 use Rattle.spi.specs.declared.divisor.Clocks.{Clocks}
+use Rattle.spi.specs.declared.flag.Flags.{Flags}
 use Rattle.spi.specs.declared.transfer.Transfer.{Transfer}
 use Rattle.spi.specs.declared.unit.Spi.{Spi}
 use Rattle.spi.specs.declared.register.Register.{Register}
 use Rattle.spi.specs.declared.register.Register.the-variants.{Spcr, Spsr, Spdr, Ddrb}
 use Rattle.spi.specs.declared.register.Written.{Written}
 use Rattle.spi.proofs.DivisorLaws.{half-of}
-use Rattle.spi.proofs.ClockLaws.{presented-as}
+use Rattle.spi.proofs.ClockLaws.{shownMiso, presented-as}
+use Rattle.spi.proofs.PinLaws.{pins-idle, pins-flagged, pins-controlled, pins-waited, pins-master, pins-shown, pins-slave, pins-started}
 use Rattle.spi.proofs.Progress.{none-under-way}
 
 -- a transfer that is not under way fits any control
@@ -87,63 +89,99 @@ valid-edged c t m out input n on w v =
     })
     (λ e. valid-idle c _ b b refl refl)
 
--- bits 5 to 0 hold MSTR and the divisor
-low-bits : (x y : ℕ) → x % 64 ≡ y % 64 → (x / 16 % 2 ≡ y / 16 % 2) × (x % 4 ≡ y % 4)
-low-bits x y e = (omega arith, omega arith)
+-- what bits 5 to 0 hold
+record LowBits (x y : ℕ) : Type 0 where
+  dord : isSet x 32 ≡ isSet y 32
+  mstr : isSet x 16 ≡ isSet y 16
+  cpol : isSet x 8 ≡ isSet y 8
+  cpha : isSet x 4 ≡ isSet y 4
+  divisor : x % 4 ≡ y % 4
+
+low-bits : (x y : ℕ) → x % 64 ≡ y % 64 → LowBits x y
+low-bits x y e = record {
+  dord = bit 32 (omega arith);
+  mstr = bit 16 (omega arith);
+  cpol = bit 8 (omega arith);
+  cpha = bit 4 (omega arith);
+  divisor = omega arith;
+}
+  where
+    bit : (w : ℕ) → x / w % 2 ≡ y / w % 2 → isSet x w ≡ isSet y w
+    bit w = ap (λ (n : ℕ). eqb n 1)
 
 module _ (s : Spi) (v : Valid s) where
   -- with SPCR and DDRB as they were
-  kept : (t : Spi) → t .control ≡ s .control → ValidTransfer (s .control) (t .transfer) → Valid t
-  kept t e w = record { spcr = rw e (v .spcr); ddrb = rw e (v .ddrb); transfer = rw e w }
+  kept : (t : Spi) → t .control ≡ s .control → ValidTransfer (s .control) (t .transfer) → ValidPins t → Valid t
+  kept t e w p = record { spcr = rw e (v .spcr); ddrb = rw e (v .ddrb); transfer = rw e w; pins = p }
 
-  module _ (on : isEnabled (s .control) ≡ true) where
-    valid-master : (miso : Bool) → isMaster (s .control) ≡ true → Valid (masterOf s miso)
-    unfolding masterOf
-    valid-master miso m =
-        let n : ℕ = s .transfer .left .0 in
-        pick-ind Valid (eqb n 0) _ _ (λ _. v)
-        (λ n0. pick-ind Valid (eqb n 1) _ _
-        (λ _. kept _ refl (valid-edged (s .control) (s .transfer) (modeOf (s .control)) _ miso _ on (waits-half (s .control) m) (v .transfer)))
-        (λ n1. kept _ refl (record {
-          shift = v .transfer .shift;
-          received = v .transfer .received;
-          edges = v .transfer .edges;
-          left = omega (arith, v .transfer .left);
-          disabled = λ q. clash on q;
-          slave = λ q. clash m q;
-          due = λ q z. absurd (omega (arith, eqb-false n 0 n0, eqb-false n 1 n1));
-        })))
+  -- with other flags
+  flagged : (f : Flags) → Valid (withFlags s f)
+  flagged f = kept _ refl (v .transfer) (pins-flagged s (v .pins) f)
 
-    valid-selected : (l : Levels) → isMaster (s .control) ≡ false → Valid (selectedOf s l)
-    unfolding selectedOf
-    valid-selected l m =
-        rw (presented-as s)
-        (pick-ind Valid (isSckEdge (cpolOf (s .control)) (s .transfer .edges) (s .pins .sck) (l .sck)) _ _
-        (λ _. kept _ refl (valid-edged (s .control) (s .transfer) (modeOf (s .control)) _ (l .mosi) _ on (waits-none (s .control) m) (v .transfer)))
-        (λ _. kept _ refl (v .transfer)))
+  module _ (l : Levels) where
+    -- the level of SCK is kept at every clock
+    abbrev Stepped : Spi → Type 0
+    Stepped t = Valid (withSck t (l .sck))
 
-  valid-faulted : Valid (faultOf s)
-  valid-faulted = record {
-    spcr = omega (arith, v .spcr);
-    ddrb = v .ddrb;
-    transfer = valid-dropped (s .control) (withoutMstr (s .control)) (s .transfer) (v .transfer);
-  }
+    module _ (on : isEnabled (s .control) ≡ true) where
+      valid-master : isMaster (s .control) ≡ true → Stepped (masterOf s (l .miso))
+      unfolding masterOf
+      valid-master m =
+          let n : ℕ = s .transfer .left .0 in
+          pick-ind Stepped (eqb n 0) _ _ (λ _. kept _ refl (v .transfer) (pins-waited s (v .pins) m (l .sck) (s .transfer .left) (λ q. q)))
+          (λ n0. pick-ind Stepped (eqb n 1) _ _
+          (λ _. kept _ refl (valid-edged (s .control) (s .transfer) (modeOf (s .control)) _ (l .miso) _ on (waits-half (s .control) m) (v .transfer))
+          (pins-master s (v .pins) m (l .sck) (l .miso)))
+          (λ n1. kept _ refl
+          (record {
+            shift = v .transfer .shift;
+            received = v .transfer .received;
+            edges = v .transfer .edges;
+            left = omega (arith, v .transfer .left);
+            disabled = λ q. clash on q;
+            slave = λ q. clash m q;
+            due = λ q z. absurd (omega (arith, eqb-false n 0 n0, eqb-false n 1 n1));
+          })
+          (pins-waited s (v .pins) m (l .sck) _ (λ q. omega (arith, q)))))
 
-  valid-stepped : (l : Levels) → Valid (byModeOf s l)
-  unfolding byModeOf slaveOf
-  valid-stepped l =
-      pick-ind Valid (isEnabled (s .control)) _ _
-      (λ on. pick-ind Valid (isMaster (s .control)) _ _
-      (λ m. pick-ind Valid (isModeFault (s .control) (l .ss)) _ _ (λ _. valid-faulted) (λ _. valid-master on (l .miso) m))
-      (λ m. pick-ind Valid (l .ss) _ _ (λ _. kept _ refl (valid-dropped (s .control) (s .control) (s .transfer) (v .transfer)))
-      (λ _. valid-selected on l m)))
-      (λ _. v)
+      valid-selected : isMaster (s .control) ≡ false → Stepped (selectedOf s l)
+      unfolding selectedOf
+      valid-selected m =
+          rw (presented-as s)
+          (pick-ind Stepped (isSckEdge (cpolOf (s .control)) (s .transfer .edges) (s .pins .sck) (l .sck)) _ _
+          (λ e. kept _ refl (valid-edged (s .control) (s .transfer) (modeOf (s .control)) _ (l .mosi) _ on (waits-none (s .control) m) (v .transfer))
+          (pins-slave s (v .pins) m (l .sck) (shownMiso s) (l .mosi) e))
+          (λ e. kept _ refl (v .transfer) (pins-shown s (v .pins) m (l .sck) e)))
+
+    valid-faulted : Stepped (faultOf s)
+    valid-faulted = record {
+      spcr = omega (arith, v .spcr);
+      ddrb = v .ddrb;
+      transfer = valid-dropped (s .control) (withoutMstr (s .control)) (s .transfer) (v .transfer);
+      pins = pins-idle _ refl refl;
+    }
+
+    valid-stepped : Stepped (byModeOf s l)
+    unfolding byModeOf slaveOf
+    valid-stepped =
+        pick-ind Stepped (isEnabled (s .control)) _ _
+        (λ on. pick-ind Stepped (isMaster (s .control)) _ _
+        (λ m. pick-ind Stepped (isModeFault (s .control) (l .ss)) _ _ (λ _. valid-faulted) (λ _. valid-master on m))
+        (λ m. pick-ind Stepped (l .ss) _ _
+        (λ _. kept _ refl (valid-dropped (s .control) (s .control) (s .transfer) (v .transfer)) (pins-idle _ refl refl))
+        (λ _. valid-selected on m)))
+        (λ off. let none = v .transfer .disabled off in kept _ refl (v .transfer) (pins-idle _ (none .0) (none .1)))
 
   -- any control fits a transfer that is not under way
-  valid-controlled : (c : Control) → isUnderWay (s .transfer) ≡ false → ValidTransfer c (s .transfer)
-  valid-controlled c e =
+  valid-controlled : (c : Control) → c .spcr < 256 → c .ddrb < 256 → isUnderWay (s .transfer) ≡ false → Valid (withControl s c)
+  valid-controlled c hs hd e =
       let n = none-under-way (s .transfer) e in
-      valid-idle c (s .transfer) (v .transfer .shift) (v .transfer .received) (n .0) (n .1)
+      record {
+        spcr = hs;
+        ddrb = hd;
+        transfer = valid-idle c (s .transfer) (v .transfer .shift) (v .transfer .received) (n .0) (n .1);
+        pins = pins-idle _ (n .0) (n .1);
+      }
 
   valid-spcr : (x : ℕ) → x < 256 → Valid (settled s (writeSpcr s x))
   unfolding writeSpcr divisorNumber
@@ -152,13 +190,23 @@ module _ (s : Spi) (v : Valid s) where
       let c : Control = record { spcr = x; spi2x = s .control .spi2x; ddrb = s .control .ddrb } in
       pick-ind P (isUnderWay (s .transfer)) _ _
       (λ _. pick-ind P (not (isSet x 64)) _ _
-      (λ _. record { spcr = h; ddrb = v .ddrb; transfer = valid-dropped (s .control) c (s .transfer) (v .transfer) })
+      (λ _. record {
+        spcr = h;
+        ddrb = v .ddrb;
+        transfer = valid-dropped (s .control) c (s .transfer) (v .transfer);
+        pins = pins-idle _ refl refl;
+      })
       (λ on. pick-ind P (eqb (x % 64) (s .control .spcr % 64)) _ _
       (λ e. let low = low-bits x (s .control .spcr) (eqb-true (x % 64) (s .control .spcr % 64) e) in
-      let w = valid-alike (s .control) c (s .transfer) (rw (low .1)) (ap (λ (n : ℕ). eqb n 1) (low .0)) (λ q. clash (not-false (isSet x 64) on) q) (v .transfer) in
-      record { spcr = h; ddrb = v .ddrb; transfer = w })
+      record {
+        spcr = h;
+        ddrb = v .ddrb;
+        transfer =
+            valid-alike (s .control) c (s .transfer) (rw (low .divisor)) (low .mstr) (λ q. clash (not-false (isSet x 64) on) q) (v .transfer);
+        pins = pins-controlled s (v .pins) c (low .mstr) (low .cpha) (low .dord) (low .cpol);
+      })
       (λ _. v)))
-      (λ e. record { spcr = h; ddrb = v .ddrb; transfer = valid-controlled c e })
+      (λ e. valid-controlled c h (v .ddrb) e)
 
   valid-spsr : (x : ℕ) → Valid (settled s (writeSpsr s x))
   unfolding writeSpsr
@@ -166,7 +214,7 @@ module _ (s : Spi) (v : Valid s) where
       let P : Written → Type 0 = λ w. Valid (settled s w) in
       pick-ind P (differs (isSet x 1) (s .control .spi2x)) _ _
       (λ _. pick-ind P (isUnderWay (s .transfer)) _ _ (λ _. v)
-      (λ e. record { spcr = v .spcr; ddrb = v .ddrb; transfer = valid-controlled _ e })) (λ _. v)
+      (λ e. valid-controlled _ (v .spcr) (v .ddrb) e)) (λ _. v)
 
   -- the shift register filled, with n clocks to the first edge
   valid-filled : (x n : ℕ) → x < 256 → isEnabled (s .control) ≡ true → Waits (s .control) (record { 0 = n })
@@ -184,37 +232,47 @@ module _ (s : Spi) (v : Valid s) where
   valid-loaded : (x : ℕ) → x < 256 → Valid (loadedOf s x)
   unfolding loadedOf
   valid-loaded x h =
-      pick-ind Valid (isUnderWay (s .transfer)) _ _ (λ _. kept _ refl (v .transfer))
+      pick-ind Valid (isUnderWay (s .transfer)) _ _ (λ _. flagged _)
       (λ _. pick-ind Valid (isEnabled (s .control)) _ _
       (λ on. pick-ind Valid (isMaster (s .control)) _ _
-      (λ m. kept _ refl (valid-filled x (half (s .control)) h on (waits-half (s .control) m)))
-      (λ m. kept _ refl (valid-filled x 0 h on (waits-none (s .control) m))))
+      (λ m. kept _ refl (valid-filled x (half (s .control)) h on (waits-half (s .control) m)) (pins-started s x m))
+      (λ m. kept _ refl (valid-filled x 0 h on (waits-none (s .control) m)) (pins-idle _ refl refl)))
       (λ _. v))
 
   -- the transfer does not look at DDRB
   valid-ddrb : (x : ℕ) → x < 256 → Valid (setDdrb s x)
   unfolding divisorNumber
-  valid-ddrb x h = record { spcr = v .spcr; ddrb = h; transfer = valid-alike (s .control) _ (s .transfer) refl refl (λ q. q) (v .transfer) }
+  valid-ddrb x h = record {
+    spcr = v .spcr;
+    ddrb = h;
+    transfer = valid-alike (s .control) _ (s .transfer) refl refl (λ q. q) (v .transfer);
+    pins = pins-controlled s (v .pins) _ refl refl refl refl;
+  }
 
 pub valid-reset : Valid resetSpi
-valid-reset = record { spcr = lit< tt; ddrb = lit< tt; transfer = valid-idle (resetSpi .control) (resetSpi .transfer) (lit< tt) (lit< tt) refl refl }
+valid-reset = record {
+  spcr = lit< tt;
+  ddrb = lit< tt;
+  transfer = valid-idle (resetSpi .control) (resetSpi .transfer) (lit< tt) (lit< tt) refl refl;
+  pins = pins-idle resetSpi refl refl;
+}
 
 pub valid-clock : (s : Spi) (l : Levels) → Valid s → Valid (clockOf s l)
-valid-clock s l v = let w = valid-stepped s v l in record { spcr = w .spcr; ddrb = w .ddrb; transfer = w .transfer }
+valid-clock s l v = valid-stepped s v l
 
 -- a written value is a byte
 pub valid-write : (s : Spi) (r : Register) (x : ℕ) → x < 256 → Valid s → Valid (settled s (writeOf s r x))
 valid-write s Spcr x h v = valid-spcr s v x h
 valid-write s Spsr x h v = valid-spsr s v x
-valid-write s Spdr x h v = valid-loaded (accessed s) (kept s v _ refl (v .transfer)) x h
+valid-write s Spdr x h v = valid-loaded (accessed s) (flagged s v _) x h
 valid-write s Ddrb x h v = valid-ddrb s v x h
 
 pub valid-read : (s : Spi) (r : Register) → Valid s → Valid (readOf s r .spi)
 valid-read s Spcr v = v
-valid-read s Spsr v = kept s v _ refl (v .transfer)
-valid-read s Spdr v = kept s v _ refl (v .transfer)
+valid-read s Spsr v = flagged s v _
+valid-read s Spdr v = flagged s v _
 valid-read s Ddrb v = v
 
 pub valid-vector : (s : Spi) → Valid s → Valid (settled s (vectorOf s))
 unfolding vectorOf
-valid-vector s v = pick-ind (λ (w : Written). Valid (settled s w)) (isRequested s) _ _ (λ _. kept s v _ refl (v .transfer)) (λ _. v)
+valid-vector s v = pick-ind (λ (w : Written). Valid (settled s w)) (isRequested s) _ _ (λ _. flagged s v _) (λ _. v)
