@@ -44,25 +44,30 @@ unfolding isSckEdge differs
 no-edge cpol k true = refl
 no-edge cpol k false = refl
 
--- each edge turns SCK, and the first leaves the level at rest
-turned : (cpol odd none : Bool) → (odd ≡ true → none ≡ false)
-    → pick (differs (differs (not odd) cpol) (differs odd cpol)) (pick none (differs (differs (not odd) cpol) cpol) true) false ≡ true
+-- each edge turns SCK
+turned : (cpol odd : Bool) → differs (differs (not odd) cpol) (differs odd cpol) ≡ true
 unfolding differs
-turned true true none h = rw (h refl) refl
-turned false true none h = rw (h refl) refl
-turned true false true h = refl
-turned true false false h = refl
-turned false false true h = refl
-turned false false false h = refl
+turned true true = refl
+turned true false = refl
+turned false true = refl
+turned false false = refl
 
 next-odd : (k : ℕ) → eqb ((k + 1) % 2) 1 ≡ not (eqb (k % 2) 1)
 next-odd k =
     split (eqb (k % 2) 1) (λ e. rw e (ne-eqb ((k + 1) % 2) 1 (λ q. omega (arith, eqb-true (k % 2) 1 e))))
     (λ e. rw e (eq-eqb ((k + 1) % 2) 1 (omega (arith, eqb-false (k % 2) 1 e))))
 
+-- .. and the first leaves the level at rest
+leaves : (cpol : Bool) → isSckEdge cpol 0 (levelAt cpol 0) (levelAt cpol 1) ≡ true
+unfolding isSckEdge differs
+leaves true = refl
+leaves false = refl
+
 pub level-turns : (cpol : Bool) (k : ℕ) → isSckEdge cpol k (levelAt cpol k) (levelAt cpol (k + 1)) ≡ true
 unfolding isSckEdge
-level-turns cpol k = rw (next-odd k) (turned cpol (eqb (k % 2) 1) (eqb k 0) (λ e. ne-eqb k 0 (λ q. omega (arith, eqb-true (k % 2) 1 e))))
+level-turns cpol k =
+    split (eqb k 0) (λ z. subst (λ (n : ℕ). isSckEdge cpol n (levelAt cpol n) (levelAt cpol (n + 1)) ≡ true) (sym (eqb-true k 0 z)) (leaves cpol))
+    (λ z. rw (next-odd k, turned cpol (eqb (k % 2) 1), z))
 
 -- two levels that do not differ
 pub same-level : (a b : Bool) → differs a b ≡ false → b ≡ a
