@@ -83,7 +83,7 @@ module _ (m : Mode) (r : Shifter) (k : ℕ) (a b : Bool) where
         shift = shift-kept m (edgeOf m r (k + 1) a) (k + 1 + 1) b (rw (c, even1)) ∙ rw (c, odd1);
         shown = λ is. rw (c, odd1, even1, p c);
         sampled = λ is. rw (c, odd1, even1);
-        presented = λ l q. rw (c, odd1, even1, even0, lt-ltb (k + 1 + 1) 16 l);
+        presented = λ l q. edge-puts m (edgeOf m r (k + 1) a) (k + 1 + 1) b (rw (c, even1)) l;
       })
 
 rest-length : (dord : Bool) (x : ℕ) → length (rest (bitsOf dord x)) ≡ 7
