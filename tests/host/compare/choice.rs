@@ -12,22 +12,41 @@ pub fn random_call<'a>(
     longest: u64,
     random: &mut Random,
 ) -> Call<'a> {
-    match random.below(1000) {
-        0..=419 => random_run(device, levels, longest, random),
-        420..=689 => random_write(device, random),
-        690..=879 => Call::Read {
+    let kind = match random.below(1000) {
+        0..=419 => 4,
+        420..=689 => 1,
+        690..=879 => 2,
+        880..=939 => 3,
+        940..=997 => 5,
+        _ => 0,
+    };
+    call_of_kind(kind, device, levels, longest, random)
+}
+
+/// A random call of a kind, by its place in the tally; all but the first look at the record.
+pub fn call_of_kind<'a>(
+    kind: usize,
+    device: &Device,
+    levels: &'a mut Levels,
+    longest: u64,
+    random: &mut Random,
+) -> Call<'a> {
+    match kind {
+        0 => Call::Reset,
+        1 => random_write(device, random),
+        2 => Call::Read {
             address: random_address(random),
         },
-        880..=939 => Call::TakeVector {
+        3 => Call::TakeVector {
             vector: random_vector(random),
         },
-        940..=997 => Call::Requests,
-        _ => Call::Reset,
+        4 => random_run(device, levels, longest, random),
+        _ => Call::Requests,
     }
 }
 
 /// A run, now and then with a wrong output length or an illegal level byte.
-pub fn random_run<'a>(
+fn random_run<'a>(
     device: &Device,
     levels: &'a mut Levels,
     longest: u64,
@@ -54,7 +73,7 @@ pub fn random_run<'a>(
     }
 }
 
-pub fn random_vector(random: &mut Random) -> u8 {
+fn random_vector(random: &mut Random) -> u8 {
     if random.percent(90) {
         random.below(2) as u8
     } else {
@@ -62,7 +81,7 @@ pub fn random_vector(random: &mut Random) -> u8 {
     }
 }
 
-pub fn random_address(random: &mut Random) -> u16 {
+fn random_address(random: &mut Random) -> u16 {
     if random.percent(95) {
         return random.pick(&address::ALL);
     }
@@ -76,7 +95,7 @@ pub fn random_address(random: &mut Random) -> u16 {
     }
 }
 
-pub fn random_write<'a>(device: &Device, random: &mut Random) -> Call<'a> {
+fn random_write<'a>(device: &Device, random: &mut Random) -> Call<'a> {
     let address = random_address(random);
     let value = if random.percent(8) {
         random.byte()

@@ -1,11 +1,14 @@
-//! Part 3: damaged records. 5 must be answered exactly when the model finds no device in the bytes.
+//! Part 3: damaged records. 5 must be answered exactly when the model finds no device in the bytes. Its long form, with
+//! more than ten million of them, is scale 3: `make compare SCALE=3` damages 13.5 million.
 
-use crate::call::{compare, Call};
-use crate::choice::{random_address, random_call, random_run, random_vector, random_write};
+use crate::call::compare;
+use crate::choice::{call_of_kind, random_call};
 use crate::devices::random_device;
 use crate::levels::Levels;
+use crate::model::layout::{self, held, LENGTH};
 use crate::model::receiver::Line;
-use crate::model::record::{decode, LENGTH};
+use crate::model::record::decode;
+use crate::model::usart::{Usart, RXB8, TXC, U2X};
 use crate::model::Device;
 use crate::pair::Pair;
 use crate::random::Random;
@@ -14,9 +17,15 @@ use crate::tally::Tally;
 const LONGEST_RUN: u64 = 40;
 
 /// Bytes that take every value whatever the others hold: no change in one of them alone can be refused.
-const FREE: [usize; 5] = [0, 2, 50, 51, 52];
-/// Bytes that can not be changed alone: a frame being received has samples, an idle line has none; the rest is unused.
-const TIED: [usize; 10] = [23, 43, 44, 45, 46, 47, 60, 61, 62, 63];
+fn is_free(place: usize) -> bool {
+    matches!(place, layout::DDRB | layout::SPI_BUFFER)
+}
+
+/// Bytes that can not be changed alone: a frame being received has samples or bits, an idle line has none; the layout
+/// has one number; the rest is unused.
+fn is_tied(place: usize) -> bool {
+    matches!(place, layout::RECEIVING | layout::NUMBER_PLACE) || layout::is_unused(place)
+}
 
 /// Answers to records with a single byte damaged, by that byte.
 struct Alone {
@@ -43,34 +52,20 @@ pub fn run(records: u64, random: &mut Random, tally: &mut Tally) -> Result<(), S
         };
         let base = Pair::of(device)?;
         let mut bytes = damaged(&base, random);
-        let call = rotated_call(number, &device, &mut levels, random);
+        // The six calls one after another, so that each of them meets every damage.
+        let call = call_of_kind(
+            number as usize % 6,
+            &device,
+            &mut levels,
+            LONGEST_RUN,
+            random,
+        );
         count(&base, &bytes, &mut alone, tally);
         let mut found = decode(&bytes);
         compare(&mut bytes, &mut found, call, tally)
             .map_err(|text| format!("record {number}: {text}"))?;
     }
     alone.check(tally)
-}
-
-/// The six calls one after another, so that each of them meets every damage.
-fn rotated_call<'a>(
-    number: u64,
-    device: &Device,
-    levels: &'a mut Levels,
-    random: &mut Random,
-) -> Call<'a> {
-    match number % 6 {
-        0 => random_write(device, random),
-        1 => Call::Read {
-            address: random_address(random),
-        },
-        2 => Call::TakeVector {
-            vector: random_vector(random),
-        },
-        3 => random_run(device, levels, LONGEST_RUN, random),
-        4 => Call::Requests,
-        _ => Call::Reset,
-    }
 }
 
 fn damaged(base: &Pair, random: &mut Random) -> Vec<u8> {
@@ -100,29 +95,48 @@ fn damage_byte(bytes: &mut [u8], device: &Device, random: &mut Random) {
 /// The first value above a byte's range, or 256; for a byte not in use that of the field in use.
 fn limit(place: usize, device: &Device) -> u16 {
     let format = &device.usart.format;
-    let (data, word) = (format.data_mask() + 1, format.word_mask() + 1);
-    let high = |limit: u16| (limit >> 8).max(1);
+    for (word, last) in last_words(&device.usart) {
+        if place == word {
+            return last.min(255) + 1;
+        }
+        if place == word + 1 {
+            return (last >> 8) + 1;
+        }
+    }
     match place {
-        0 | 2 | 33 | 38 | 48 | 50..=52 => 256,
-        1 | 3 | 53 => 16,
-        4 if format.data_bits == 9 => 8,
-        4 | 5 => 4,
-        16 => data.min(256),
-        17 => high(data),
-        19 | 29 => word.min(256),
-        20 | 30 => high(word),
-        21 => format.last_bit() as u16 + 1,
-        22 => format.ticks() as u16,
-        25 => format.word_bits() as u16 + 2,
-        26 => match device.usart.receiver.line {
+        layout::UCSR0A => (TXC | U2X) as u16 + 1,
+        layout::UCSR0B => !RXB8 as u16 + 1,
+        layout::UCSR0C => 0x3F,
+        layout::SENT_BIT => format.last_bit() as u16 + 1,
+        layout::SENT_TICKS => format.ticks() as u16,
+        layout::SAMPLED_BIT => format.word_bits() as u16 + 2,
+        layout::SAMPLES => match device.usart.receiver.line {
             Line::Frame(frame) if frame.bit > format.word_bits() => format.last_vote() as u16,
             _ => format.ticks() as u16,
         },
-        31 | 55 | 56 => 3,
-        54 => device.spi.half() as u16 + 1,
-        43..=47 | 60..=63 => 1,
+        layout::FRAMES_HELD | layout::SPIF | layout::WCOL => 3,
+        layout::OLDEST_FLAGS | layout::SECOND_FLAGS => held::LIMIT as u16,
+        layout::OLDEST_DATA | layout::SECOND_DATA => 256,
+        layout::SPCR | layout::DDRB | layout::SHIFT | layout::SPI_BUFFER => 256,
+        layout::EDGES => 16,
+        layout::CLOCKS_LEFT => device.spi.half() as u16 + 1,
+        layout::NUMBER_PLACE => layout::NUMBER as u16 + 1,
+        _ if layout::is_unused(place) => 1,
         _ => 2,
     }
+}
+
+/// The greatest value of each field that is a word, at the field's place.
+fn last_words(usart: &Usart) -> [(usize, u16); 5] {
+    let format = &usart.format;
+    let counter = if usart.in_frame() { usart.ubrr } else { 4095 };
+    [
+        (layout::UBRR, 4095),
+        (layout::COUNTER, counter),
+        (layout::BUFFER, format.data_mask()),
+        (layout::SENT_WORD, format.word_mask()),
+        (layout::RECEIVED_WORD, format.word_mask()),
+    ]
 }
 
 fn count(base: &Pair, bytes: &[u8], alone: &mut Alone, tally: &mut Tally) {
@@ -154,17 +168,17 @@ impl Alone {
     /// Every byte must have been the only cause of a refusal, and the only change of an accepted record, where it can.
     fn check(&self, tally: &mut Tally) -> Result<(), String> {
         tally.least_refused =
-            least(&self.refused, &FREE).map_err(|text| format!("refusals, {text}"))?;
+            least(&self.refused, is_free).map_err(|text| format!("refusals, {text}"))?;
         tally.least_accepted =
-            least(&self.accepted, &TIED).map_err(|text| format!("acceptances, {text}"))?;
+            least(&self.accepted, is_tied).map_err(|text| format!("acceptances, {text}"))?;
         Ok(())
     }
 }
 
 /// The least of the counts; those of the excepted bytes must be 0, and no other.
-fn least(counts: &[u64; LENGTH], except: &[usize]) -> Result<u64, String> {
+fn least(counts: &[u64; LENGTH], excepted: fn(usize) -> bool) -> Result<u64, String> {
     for (place, &count) in counts.iter().enumerate() {
-        if (count == 0) != except.contains(&place) {
+        if (count == 0) != excepted(place) {
             return Err(format!("byte {place} alone: {count}"));
         }
     }

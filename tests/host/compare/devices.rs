@@ -1,4 +1,5 @@
-//! Part 2: random valid devices, each field random within its range in docs/RECORD.md, also states no history reaches.
+//! Part 2: random valid devices, each field random within its range and the rules of docs/RECORD.md, also states no
+//! history reaches.
 
 use crate::choice::random_call;
 use crate::levels::Levels;
@@ -30,22 +31,19 @@ pub fn run(devices: u64, random: &mut Random, tally: &mut Tally) -> Result<(), S
 
 pub fn random_device(random: &mut Random) -> Device {
     let format = random_format(random);
-    let ubrr = random_baud(random);
+    let mut usart = Usart {
+        format,
+        ubrr: random_baud(random),
+        counter: 0,
+        rxcie: random.flip(),
+        txcie: random.flip(),
+        udrie: random.flip(),
+        sender: random_sender(&format, random),
+        receiver: random_receiver(&format, random),
+    };
+    usart.counter = random_counter(&usart, random);
     Device {
-        usart: Usart {
-            format,
-            ubrr,
-            counter: if random.percent(50) {
-                random.between(0, ubrr as u64) as u16
-            } else {
-                random_baud(random)
-            },
-            rxcie: random.flip(),
-            txcie: random.flip(),
-            udrie: random.flip(),
-            sender: random_sender(&format, random),
-            receiver: random_receiver(&format, random),
-        },
+        usart,
         spi: random_spi(random),
     }
 }
@@ -68,11 +66,21 @@ fn random_baud(random: &mut Random) -> u16 {
     }
 }
 
+/// The baud counter: not above UBRR while a frame is sent or received, and as often as not else.
+fn random_counter(usart: &Usart, random: &mut Random) -> u16 {
+    if usart.in_frame() || random.flip() {
+        random.between(0, usart.ubrr as u64) as u16
+    } else {
+        random_baud(random)
+    }
+}
+
 fn random_sender(format: &Format, random: &mut Random) -> Sender {
+    let word = format.word_of(random.next() as u16 & format.data_mask());
     let shifting = Shifting {
         bit: random.between(0, format.last_bit() as u64) as u8,
         ticks: random.below(format.ticks() as u64) as u8,
-        ..Shifting::start(random.next() as u16 & format.word_mask(), format)
+        ..Shifting::start(word, format)
     };
     Sender {
         txen: random.flip(),
@@ -115,12 +123,17 @@ fn random_receiving(format: &Format, random: &mut Random) -> Receiving {
     } else {
         format.ticks()
     };
-    Receiving {
+    let mut frame = Receiving {
         bit,
         samples: random.between(first, limit as u64 - 1) as u8,
-        votes: [random.flip(), random.flip()],
-        word: random.next() as u16 & format.word_mask(),
+        votes: [false; 2],
+        word: 0,
+    };
+    for vote in 0..frame.votes_kept(format) {
+        frame.votes[vote] = random.flip();
     }
+    frame.word = random.next() as u16 & format.word_mask() & !frame.bits_to_come(format);
+    frame
 }
 
 fn random_received(random: &mut Random) -> Received {
@@ -147,11 +160,21 @@ fn random_spi(random: &mut Random) -> Spi {
         sck: random.flip(),
         ..Spi::reset()
     };
-    if spi.spcr & SPE != 0 && random.percent(70) {
-        spi.edges = random.below(16) as u8;
-        if spi.spcr & MSTR != 0 {
-            spi.clocks_left = random.between(1, spi.half() as u64) as u8;
-        }
+    if spi.has(SPE) && random.percent(70) {
+        put_into_transfer(&mut spi, random);
     }
     spi
+}
+
+/// A byte under way: the bit that is out is on its pin, and a slave's SCK where the last edge brought it.
+fn put_into_transfer(spi: &mut Spi, random: &mut Random) {
+    spi.edges = random.below(16) as u8;
+    let out = spi.first_bit_is_out().then_some(spi.first_bit());
+    if spi.has(MSTR) {
+        spi.clocks_left = random.between(1, spi.half() as u64) as u8;
+        spi.mosi = out.unwrap_or(spi.mosi);
+    } else if spi.edges > 0 {
+        spi.miso = out.unwrap_or(spi.miso);
+        spi.sck = spi.sck_of_edges();
+    }
 }

@@ -1,59 +1,47 @@
 //! The text that is printed when archive and model differ.
 
 use crate::call::{Answer, Call};
+use crate::model::layout;
 
-/// First byte and name of each field of the record (docs/RECORD.md).
-const FIELDS: [(usize, &str); 50] = [
-    (0, "UBRR"),
-    (2, "baud counter"),
-    (4, "size code"),
-    (5, "UPM"),
-    (6, "USBS"),
-    (7, "U2X"),
-    (8, "RXCIE"),
-    (9, "TXCIE"),
-    (10, "UDRIE"),
-    (11, "RXEN"),
-    (12, "TXEN"),
-    (13, "TXB8"),
-    (14, "TXC"),
-    (15, "transmit buffer full"),
-    (16, "transmit buffer"),
-    (18, "sending"),
-    (19, "word in the shifter"),
-    (21, "bit on the line"),
-    (22, "ticks of that bit"),
-    (23, "receiving"),
-    (24, "last sample"),
-    (25, "bit being sampled"),
-    (26, "samples of that bit"),
-    (27, "first vote"),
-    (28, "second vote"),
-    (29, "bits received"),
-    (31, "frames held"),
-    (32, "frame lost"),
-    (33, "oldest frame, data"),
-    (35, "oldest frame, FE"),
-    (36, "oldest frame, UPE"),
-    (37, "oldest frame, DOR"),
-    (38, "second frame, data"),
-    (40, "second frame, FE"),
-    (41, "second frame, UPE"),
-    (42, "second frame, DOR"),
-    (43, "unused"),
-    (48, "SPCR"),
-    (49, "SPI2X"),
-    (50, "DDRB"),
-    (51, "SPI shift register"),
-    (52, "SPI receive buffer"),
-    (53, "edges"),
-    (54, "clocks to the next edge"),
-    (55, "SPIF"),
-    (56, "WCOL"),
-    (57, "last bit on MOSI"),
-    (58, "last bit on MISO"),
-    (59, "last SCK"),
-    (60, "unused"),
+/// First byte and name of each field of the record that is in use.
+const FIELDS: [(usize, &str); 37] = [
+    (layout::UBRR, "UBRR"),
+    (layout::COUNTER, "baud counter"),
+    (layout::UCSR0A, "UCSR0A: TXC and U2X"),
+    (layout::UCSR0B, "UCSR0B"),
+    (layout::UCSR0C, "UCSR0C"),
+    (layout::BUFFER_FULL, "transmit buffer full"),
+    (layout::BUFFER, "transmit buffer"),
+    (layout::SENDING, "sending"),
+    (layout::SENT_WORD, "word in the shifter"),
+    (layout::SENT_BIT, "bit on the line"),
+    (layout::SENT_TICKS, "ticks of that bit"),
+    (layout::RECEIVING, "receiving"),
+    (layout::LAST_SAMPLE, "last sample"),
+    (layout::SAMPLED_BIT, "bit being sampled"),
+    (layout::SAMPLES, "samples of that bit"),
+    (layout::FIRST_VOTE, "first vote"),
+    (layout::SECOND_VOTE, "second vote"),
+    (layout::RECEIVED_WORD, "bits received"),
+    (layout::FRAMES_HELD, "frames held"),
+    (layout::FRAME_LOST, "frame lost"),
+    (layout::OLDEST_DATA, "oldest frame, data"),
+    (layout::OLDEST_FLAGS, "oldest frame, ninth bit and flags"),
+    (layout::SECOND_DATA, "second frame, data"),
+    (layout::SECOND_FLAGS, "second frame, ninth bit and flags"),
+    (layout::SPCR, "SPCR"),
+    (layout::SPI2X, "SPI2X"),
+    (layout::DDRB, "DDRB"),
+    (layout::SHIFT, "SPI shift register"),
+    (layout::SPI_BUFFER, "SPI receive buffer"),
+    (layout::EDGES, "edges"),
+    (layout::CLOCKS_LEFT, "clocks to the next edge"),
+    (layout::SPIF, "SPIF"),
+    (layout::WCOL, "WCOL"),
+    (layout::MOSI, "last bit on MOSI"),
+    (layout::MISO, "last bit on MISO"),
+    (layout::SCK, "last SCK"),
+    (layout::NUMBER_PLACE, "number of the layout"),
 ];
 
 /// The bytes of a record: before the call, after it, and as the model has them after it.
@@ -93,6 +81,9 @@ pub fn text(call: &Call, given: &Answer, expected: &Answer, records: &Records) -
 }
 
 fn name(place: usize) -> &'static str {
+    if layout::is_unused(place) {
+        return "unused";
+    }
     let next = FIELDS.partition_point(|(first, _)| *first <= place);
     FIELDS[next - 1].1
 }

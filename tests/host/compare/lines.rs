@@ -7,7 +7,7 @@ use crate::model::frame::Format;
 use crate::model::receiver::{Line, Receiver};
 use crate::model::sender::Sender;
 use crate::model::usart::{DOR, FE, RXB8, RXC, UPE};
-use crate::model::{address, level};
+use crate::model::{address, layout, level};
 use crate::pair::Pair;
 use crate::random::Random;
 use crate::rates::{all_formats, bits_at_limit, check_m9, Bit};
@@ -108,13 +108,10 @@ fn line_inside(
         run_in_pieces(&mut pair, &line.levels[clock..end], random, tally)?;
         clock = end;
         unread.push_back(data);
-        // Byte 31 of the record is the number of frames held: this frame has entered in time.
-        if pair.record[31] as usize != unread.len() {
-            return Err(format!(
-                "{} frames held instead of {}",
-                pair.record[31],
-                unread.len()
-            ));
+        // This frame has entered in time.
+        let held = pair.record[layout::FRAMES_HELD];
+        if held as usize != unread.len() {
+            return Err(format!("{held} frames held instead of {}", unread.len()));
         }
         if unread.len() == 2 || random.percent(70) {
             read_frame(&mut pair, unread.pop_front(), tally)?;

@@ -1,17 +1,19 @@
-//! The fields of a record and their ranges, as docs/RECORD.md describes them.
+//! The fields of a record, their ranges and the rules between them, as docs/RECORD.md describes them.
 
 use super::frame::Format;
+use super::layout::{self, held};
 use super::receiver::{Line, Received, Receiver, Receiving};
 use super::record::Bytes;
 use super::sender::{Sender, Shifting};
 use super::spi::{Flag, Spi, MSTR, SPE};
-use super::usart::Usart;
+use super::usart::{Usart, RXCIE, RXEN, TXB8, TXC, TXCIE, TXEN, U2X, UCSZ2, UDRIE, USBS};
 use super::Device;
 
 const UBRR_LIMIT: u16 = 4096;
-const DATA_LIMIT: u16 = 512;
+const EDGES_LIMIT: u8 = 16;
 
-/// The device of the fields in use, none if one is out of its range. Other bytes are not looked at.
+/// The device of the fields in use, none if one is out of its range or does not fit the others. Bits and bytes not in
+/// use are not looked at.
 pub fn device(bytes: &Bytes) -> Option<Device> {
     Some(Device {
         usart: get_usart(bytes)?,
@@ -32,123 +34,163 @@ fn get_bool(bytes: &Bytes, place: usize) -> Option<bool> {
     get_below(bytes, place, 2).map(|byte| byte == 1)
 }
 
+fn get_bit(bytes: &Bytes, place: usize, mask: u8) -> bool {
+    bytes[place] & mask != 0
+}
+
 fn get_usart(bytes: &Bytes) -> Option<Usart> {
-    let format = Format {
-        data_bits: Format::data_bits_of(bytes[4])?,
-        parity: Format::parity_of(bytes[5])?,
-        two_stops: get_bool(bytes, 6)?,
-        double_speed: get_bool(bytes, 7)?,
-    };
-    Some(Usart {
+    let format = get_format(bytes)?;
+    let usart = Usart {
         format,
-        ubrr: get_word(bytes, 0, UBRR_LIMIT)?,
-        counter: get_word(bytes, 2, UBRR_LIMIT)?,
-        rxcie: get_bool(bytes, 8)?,
-        txcie: get_bool(bytes, 9)?,
-        udrie: get_bool(bytes, 10)?,
+        ubrr: get_word(bytes, layout::UBRR, UBRR_LIMIT)?,
+        counter: get_word(bytes, layout::COUNTER, UBRR_LIMIT)?,
+        rxcie: get_bit(bytes, layout::UCSR0B, RXCIE),
+        txcie: get_bit(bytes, layout::UCSR0B, TXCIE),
+        udrie: get_bit(bytes, layout::UCSR0B, UDRIE),
         sender: get_sender(bytes, &format)?,
         receiver: get_receiver(bytes, &format)?,
+    };
+    (usart.counter <= usart.ubrr || !usart.in_frame()).then_some(usart)
+}
+
+fn get_format(bytes: &Bytes) -> Option<Format> {
+    let ucsr0c = bytes[layout::UCSR0C];
+    let code = bytes[layout::UCSR0B] & UCSZ2 | ucsr0c >> 1 & 3;
+    Some(Format {
+        data_bits: Format::data_bits_of(code)?,
+        parity: Format::parity_of(ucsr0c >> 4 & 3)?,
+        two_stops: get_bit(bytes, layout::UCSR0C, USBS),
+        double_speed: get_bit(bytes, layout::UCSR0A, U2X),
     })
 }
 
 fn get_sender(bytes: &Bytes, format: &Format) -> Option<Sender> {
     let mut sender = Sender {
-        txen: get_bool(bytes, 12)?,
-        txb8: get_bool(bytes, 13)?,
-        txc: get_bool(bytes, 14)?,
+        txen: get_bit(bytes, layout::UCSR0B, TXEN),
+        txb8: get_bit(bytes, layout::UCSR0B, TXB8),
+        txc: get_bit(bytes, layout::UCSR0A, TXC),
         ..Sender::reset()
     };
-    if get_bool(bytes, 15)? {
-        sender.buffer = Some(get_word(bytes, 16, format.data_mask() + 1)?);
+    if get_bool(bytes, layout::BUFFER_FULL)? {
+        sender.buffer = Some(get_word(bytes, layout::BUFFER, format.data_mask() + 1)?);
     }
-    if get_bool(bytes, 18)? {
-        let word = get_word(bytes, 19, format.word_mask() + 1)?;
-        let bit = get_below(bytes, 21, format.last_bit() + 1)?;
-        let ticks = get_below(bytes, 22, format.ticks())?;
-        sender.shifter = Some(Shifting {
-            bit,
-            ticks,
-            ..Shifting::start(word, format)
-        });
+    if get_bool(bytes, layout::SENDING)? {
+        sender.shifter = Some(get_shifting(bytes, format)?);
     }
     Some(sender)
 }
 
+fn get_shifting(bytes: &Bytes, format: &Format) -> Option<Shifting> {
+    let word = get_word(bytes, layout::SENT_WORD, format.word_mask() + 1)?;
+    let frame = Shifting {
+        bit: get_below(bytes, layout::SENT_BIT, format.last_bit() + 1)?,
+        ticks: get_below(bytes, layout::SENT_TICKS, format.ticks())?,
+        ..Shifting::start(word, format)
+    };
+    let parity_right = word == format.word_of(word & format.data_mask());
+    parity_right.then_some(frame)
+}
+
 fn get_receiver(bytes: &Bytes, format: &Format) -> Option<Receiver> {
-    if !get_bool(bytes, 11)? {
+    if !get_bit(bytes, layout::UCSR0B, RXEN) {
         return Some(Receiver::reset());
     }
-    let line = match get_bool(bytes, 23)? {
+    let line = match get_bool(bytes, layout::RECEIVING)? {
         false => Line::Idle {
-            last: get_bool(bytes, 24)?,
+            last: get_bool(bytes, layout::LAST_SAMPLE)?,
         },
         true => Line::Frame(get_receiving(bytes, format)?),
     };
-    let (oldest, second) = match bytes[31] {
-        0 => (None, None),
-        1 => (Some(get_received(bytes, 33)?), None),
-        2 => (Some(get_received(bytes, 33)?), Some(get_received(bytes, 38)?)),
-        _ => return None,
-    };
-    let lost = get_bool(bytes, 32)?;
+    let (mut oldest, mut second) = (None, None);
+    let frames_held = get_below(bytes, layout::FRAMES_HELD, 3)?;
+    if frames_held > 0 {
+        oldest = Some(get_received(bytes, layout::OLDEST_DATA, layout::OLDEST_FLAGS)?);
+    }
+    if frames_held > 1 {
+        second = Some(get_received(bytes, layout::SECOND_DATA, layout::SECOND_FLAGS)?);
+    }
     Some(Receiver {
         rxen: true,
         line,
         oldest,
         second,
-        lost,
+        lost: get_bool(bytes, layout::FRAME_LOST)?,
     })
 }
 
 fn get_receiving(bytes: &Bytes, format: &Format) -> Option<Receiving> {
     let stop_bit = format.word_bits() + 1;
-    let bit = get_below(bytes, 25, stop_bit + 1)?;
-    // Sample 1 begins the start bit; the stop bit's last vote ends the frame.
-    let limit = if bit == stop_bit { format.last_vote() } else { format.ticks() };
-    let samples = get_below(bytes, 26, limit)?;
-    if bit == 0 && samples == 0 {
-        return None;
-    }
-    let votes = [get_bool(bytes, 27)?, get_bool(bytes, 28)?];
-    Some(Receiving {
+    let bit = get_below(bytes, layout::SAMPLED_BIT, stop_bit + 1)?;
+    // The stop bit's last vote ends the frame.
+    let limit = if bit == stop_bit {
+        format.last_vote()
+    } else {
+        format.ticks()
+    };
+    let frame = Receiving {
         bit,
-        samples,
-        votes,
-        word: get_word(bytes, 29, format.word_mask() + 1)?,
-    })
+        samples: get_below(bytes, layout::SAMPLES, limit)?,
+        votes: [
+            get_bool(bytes, layout::FIRST_VOTE)?,
+            get_bool(bytes, layout::SECOND_VOTE)?,
+        ],
+        word: get_word(bytes, layout::RECEIVED_WORD, format.word_mask() + 1)?,
+    };
+    // Sample 1 begins the start bit.
+    let begun = bit > 0 || frame.samples > 0;
+    let kept = frame.votes_kept(format);
+    let votes_fit = frame.votes[kept..].iter().all(|vote| !vote);
+    let word_fits = frame.word & frame.bits_to_come(format) == 0;
+    (begun && votes_fit && word_fits).then_some(frame)
 }
 
-fn get_received(bytes: &Bytes, place: usize) -> Option<Received> {
+fn get_received(bytes: &Bytes, data: usize, flags: usize) -> Option<Received> {
+    let ninth = (get_below(bytes, flags, held::LIMIT)? & held::NINTH) as u16;
     Some(Received {
-        data: get_word(bytes, place, DATA_LIMIT)?,
-        fe: get_bool(bytes, place + 2)?,
-        upe: get_bool(bytes, place + 3)?,
-        dor: get_bool(bytes, place + 4)?,
+        data: ninth << 8 | bytes[data] as u16,
+        fe: get_bit(bytes, flags, held::FE),
+        upe: get_bit(bytes, flags, held::UPE),
+        dor: get_bit(bytes, flags, held::DOR),
     })
 }
 
 fn get_spi(bytes: &Bytes) -> Option<Spi> {
     let spi = Spi {
-        spcr: bytes[48],
-        spi2x: get_bool(bytes, 49)?,
-        ddrb: bytes[50],
-        shift: bytes[51],
-        buffer: bytes[52],
-        edges: get_below(bytes, 53, 16)?,
-        clocks_left: bytes[54],
-        spif: get_flag(bytes, 55)?,
-        wcol: get_flag(bytes, 56)?,
-        mosi: get_bool(bytes, 57)?,
-        miso: get_bool(bytes, 58)?,
-        sck: get_bool(bytes, 59)?,
+        spcr: bytes[layout::SPCR],
+        spi2x: get_bool(bytes, layout::SPI2X)?,
+        ddrb: bytes[layout::DDRB],
+        shift: bytes[layout::SHIFT],
+        buffer: bytes[layout::SPI_BUFFER],
+        edges: get_below(bytes, layout::EDGES, EDGES_LIMIT)?,
+        clocks_left: bytes[layout::CLOCKS_LEFT],
+        spif: get_flag(bytes, layout::SPIF)?,
+        wcol: get_flag(bytes, layout::WCOL)?,
+        mosi: get_bool(bytes, layout::MOSI)?,
+        miso: get_bool(bytes, layout::MISO)?,
+        sck: get_bool(bytes, layout::SCK)?,
     };
-    // Without SPE there is no transfer; only a master waits for an edge, and its byte under way always does.
-    let valid = match (spi.spcr & SPE != 0, spi.spcr & MSTR != 0) {
+    let valid = match (spi.has(SPE), spi.has(MSTR)) {
         (false, _) => !spi.in_transfer(),
-        (true, false) => spi.clocks_left == 0,
-        (true, true) => spi.clocks_left <= spi.half() && (spi.edges == 0 || spi.clocks_left > 0),
+        (true, false) => slave_fits(&spi),
+        (true, true) => master_fits(&spi),
     };
     valid.then_some(spi)
+}
+
+/// A master waits for an edge exactly while a byte is under way; the bit that has not left is on MOSI then.
+fn master_fits(spi: &Spi) -> bool {
+    if spi.clocks_left == 0 {
+        return spi.edges == 0;
+    }
+    spi.clocks_left <= spi.half() && (!spi.first_bit_is_out() || spi.mosi == spi.first_bit())
+}
+
+/// A slave does not wait. Once it has seen an edge of a byte, the bit that has not left is on MISO, and SCK is where the
+/// last edge brought it.
+fn slave_fits(spi: &Spi) -> bool {
+    let bit_fits = !spi.first_bit_is_out() || spi.miso == spi.first_bit();
+    let edges_fit = spi.edges == 0 || bit_fits && spi.sck == spi.sck_of_edges();
+    spi.clocks_left == 0 && edges_fit
 }
 
 fn get_flag(bytes: &Bytes, place: usize) -> Option<Flag> {

@@ -3,6 +3,7 @@
 
 mod decode;
 pub mod frame;
+pub mod layout;
 pub mod receiver;
 pub mod record;
 pub mod sender;

@@ -18,10 +18,9 @@ pub struct Receiving {
     pub bit: u8,
     /// Samples of that bit that have been taken.
     pub samples: u8,
-    /// The first two votes of the bit being sampled, low until they are taken. Neither document 01 nor docs/RECORD.md
-    /// says what stands here between votes; this is the archive's way, and no answer depends on it.
+    /// The first two votes of the bit being sampled, low until they are cast and once the bit is decided.
     pub votes: [bool; 2],
-    /// The bits decided so far, shifted in at the top of D bits.
+    /// The bits decided so far, shifted in at the top of D bits; those to come are 0.
     pub word: u16,
 }
 
@@ -151,21 +150,37 @@ impl Receiving {
         } else if self.samples == format.ticks() {
             self.bit += 1;
             self.samples = 0;
-            self.votes = [false; 2];
         }
         false
     }
 
-    /// The last vote of a bit. True when the frame ends: a start bit voted high, or the stop bit.
+    /// The last vote of a bit. True when the frame ends: a start bit voted high, or the stop bit. Else the votes kept
+    /// have done their work.
     fn decide(&mut self, rxd: bool, format: &Format) -> bool {
         let high = self.majority(rxd);
-        if self.bit == 0 {
-            return high;
-        }
-        if self.bit > format.word_bits() {
+        if self.bit == 0 && high || self.bit > format.word_bits() {
             return true;
         }
-        self.word = self.word >> 1 | (high as u16) << (format.word_bits() - 1);
+        if self.bit > 0 {
+            self.word = self.word >> 1 | (high as u16) << (format.word_bits() - 1);
+        }
+        self.votes = [false; 2];
         false
+    }
+
+    /// How many votes of the bit being sampled are kept: those that are cast, until the last one decides.
+    pub fn votes_kept(&self, format: &Format) -> usize {
+        match format.last_vote().saturating_sub(self.samples) {
+            1 => 2,
+            2 => 1,
+            _ => 0,
+        }
+    }
+
+    /// The bits of the word that have not come in: of D data and parity bits, those that are not decided.
+    pub fn bits_to_come(&self, format: &Format) -> u16 {
+        let decided = self.samples >= format.last_vote();
+        let came_in = (self.bit + decided as u8).saturating_sub(1);
+        format.word_mask() >> came_in
     }
 }

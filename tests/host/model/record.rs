@@ -1,12 +1,13 @@
-//! The 64 bytes of a device, as docs/RECORD.md describes them.
+//! The bytes of a device, as docs/RECORD.md describes them.
 
 use super::decode;
+use super::layout::{self, held};
 use super::receiver::{Line, Received, Receiver};
 use super::spi::Spi;
-use super::usart::Usart;
+use super::usart::{bit, Usart, RXB8, TXC, U2X};
 use super::Device;
 
-pub const LENGTH: usize = 64;
+pub use super::layout::LENGTH;
 
 pub type Bytes = [u8; LENGTH];
 
@@ -17,6 +18,7 @@ pub fn encode(device: &Device) -> Bytes {
     put_sender(&mut bytes, &device.usart);
     put_receiver(&mut bytes, &device.usart.receiver);
     put_spi(&mut bytes, &device.spi);
+    bytes[layout::NUMBER_PLACE] = layout::NUMBER;
     bytes
 }
 
@@ -24,7 +26,7 @@ pub fn encode(device: &Device) -> Bytes {
 pub fn decode(bytes: &[u8]) -> Option<Device> {
     let bytes: &Bytes = bytes.try_into().ok()?;
     let device = decode::device(bytes)?;
-    // What is left to check is that unused bytes and fields not in use are 0.
+    // What is left to check is the layout's number, and that bits, bytes and fields not in use are 0.
     (encode(&device) == *bytes).then_some(device)
 }
 
@@ -32,74 +34,72 @@ fn put_word(bytes: &mut Bytes, place: usize, word: u16) {
     bytes[place..place + 2].copy_from_slice(&word.to_le_bytes());
 }
 
+/// Settings, and TXC, stand as they are read.
 fn put_settings(bytes: &mut Bytes, usart: &Usart) {
-    put_word(bytes, 0, usart.ubrr);
-    put_word(bytes, 2, usart.counter);
-    bytes[4] = usart.format.size_code();
-    bytes[5] = usart.format.upm();
-    bytes[6] = usart.format.two_stops as u8;
-    bytes[7] = usart.format.double_speed as u8;
-    bytes[8] = usart.rxcie as u8;
-    bytes[9] = usart.txcie as u8;
-    bytes[10] = usart.udrie as u8;
+    put_word(bytes, layout::UBRR, usart.ubrr);
+    put_word(bytes, layout::COUNTER, usart.counter);
+    bytes[layout::UCSR0A] = usart.read_a() & (TXC | U2X);
+    bytes[layout::UCSR0B] = usart.read_b() & !RXB8;
+    bytes[layout::UCSR0C] = usart.read_c();
 }
 
 fn put_sender(bytes: &mut Bytes, usart: &Usart) {
-    let sender = &usart.sender;
-    bytes[12] = sender.txen as u8;
-    bytes[13] = sender.txb8 as u8;
-    bytes[14] = sender.txc as u8;
-    if let Some(data) = sender.buffer {
-        bytes[15] = 1;
-        put_word(bytes, 16, data);
+    if let Some(data) = usart.sender.buffer {
+        bytes[layout::BUFFER_FULL] = 1;
+        put_word(bytes, layout::BUFFER, data);
     }
-    if let Some(frame) = sender.shifter {
-        bytes[18] = 1;
-        put_word(bytes, 19, frame.word(&usart.format));
-        bytes[21] = frame.bit;
-        bytes[22] = frame.ticks;
+    if let Some(frame) = usart.sender.shifter {
+        bytes[layout::SENDING] = 1;
+        put_word(bytes, layout::SENT_WORD, frame.word(&usart.format));
+        bytes[layout::SENT_BIT] = frame.bit;
+        bytes[layout::SENT_TICKS] = frame.ticks;
     }
 }
 
 fn put_receiver(bytes: &mut Bytes, receiver: &Receiver) {
-    bytes[11] = receiver.rxen as u8;
     match receiver.line {
-        Line::Idle { last } => bytes[24] = last as u8,
+        Line::Idle { last } => bytes[layout::LAST_SAMPLE] = last as u8,
         Line::Frame(frame) => {
-            bytes[23] = 1;
-            bytes[25] = frame.bit;
-            bytes[26] = frame.samples;
-            bytes[27] = frame.votes[0] as u8;
-            bytes[28] = frame.votes[1] as u8;
-            put_word(bytes, 29, frame.word);
+            bytes[layout::RECEIVING] = 1;
+            bytes[layout::SAMPLED_BIT] = frame.bit;
+            bytes[layout::SAMPLES] = frame.samples;
+            bytes[layout::FIRST_VOTE] = frame.votes[0] as u8;
+            bytes[layout::SECOND_VOTE] = frame.votes[1] as u8;
+            put_word(bytes, layout::RECEIVED_WORD, frame.word);
         }
     }
-    bytes[31] = receiver.oldest.is_some() as u8 + receiver.second.is_some() as u8;
-    bytes[32] = receiver.lost as u8;
-    put_received(bytes, 33, receiver.oldest);
-    put_received(bytes, 38, receiver.second);
+    bytes[layout::FRAMES_HELD] = receiver.oldest.is_some() as u8 + receiver.second.is_some() as u8;
+    bytes[layout::FRAME_LOST] = receiver.lost as u8;
+    let (data, flags) = received_bytes(receiver.oldest);
+    bytes[layout::OLDEST_DATA] = data;
+    bytes[layout::OLDEST_FLAGS] = flags;
+    let (data, flags) = received_bytes(receiver.second);
+    bytes[layout::SECOND_DATA] = data;
+    bytes[layout::SECOND_FLAGS] = flags;
 }
 
-fn put_received(bytes: &mut Bytes, place: usize, frame: Option<Received>) {
-    if let Some(frame) = frame {
-        put_word(bytes, place, frame.data);
-        bytes[place + 2] = frame.fe as u8;
-        bytes[place + 3] = frame.upe as u8;
-        bytes[place + 4] = frame.dor as u8;
-    }
+/// Data bits 7 to 0 of a frame held, and the byte with the ninth and the flags; 0 for none.
+fn received_bytes(frame: Option<Received>) -> (u8, u8) {
+    frame.map_or((0, 0), |frame| {
+        let flags = bit(frame.data & 0x100 != 0, held::NINTH)
+            | bit(frame.upe, held::UPE)
+            | bit(frame.dor, held::DOR)
+            | bit(frame.fe, held::FE);
+        (frame.data as u8, flags)
+    })
 }
 
 fn put_spi(bytes: &mut Bytes, spi: &Spi) {
-    bytes[48] = spi.spcr;
-    bytes[49] = spi.spi2x as u8;
-    bytes[50] = spi.ddrb;
-    bytes[51] = spi.shift;
-    bytes[52] = spi.buffer;
-    bytes[53] = spi.edges;
-    bytes[54] = spi.clocks_left;
-    bytes[55] = spi.spif as u8;
-    bytes[56] = spi.wcol as u8;
-    bytes[57] = spi.mosi as u8;
-    bytes[58] = spi.miso as u8;
-    bytes[59] = spi.sck as u8;
+    bytes[layout::SPCR] = spi.spcr;
+    bytes[layout::SPI2X] = spi.spi2x as u8;
+    bytes[layout::DDRB] = spi.ddrb;
+    bytes[layout::SHIFT] = spi.shift;
+    bytes[layout::SPI_BUFFER] = spi.buffer;
+    bytes[layout::EDGES] = spi.edges;
+    bytes[layout::CLOCKS_LEFT] = spi.clocks_left;
+    bytes[layout::SPIF] = spi.spif as u8;
+    bytes[layout::WCOL] = spi.wcol as u8;
+    bytes[layout::MOSI] = spi.mosi as u8;
+    bytes[layout::MISO] = spi.miso as u8;
+    bytes[layout::SCK] = spi.sck as u8;
 }

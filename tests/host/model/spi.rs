@@ -193,6 +193,17 @@ impl Spi {
         }
     }
 
+    /// In a byte under way: the first bit has been put out and has not left yet.
+    pub fn first_bit_is_out(&self) -> bool {
+        (self.edges & 1 == 1) == self.has(CPHA)
+    }
+
+    /// The level of SCK after the edges of the byte under way: CPOL, or away from it after an odd number.
+    #[inline]
+    pub fn sck_of_edges(&self) -> bool {
+        self.has(CPOL) != (self.edges & 1 == 1)
+    }
+
     /// The bit that leaves the shift register next.
     #[inline]
     pub fn first_bit(&self) -> bool {
@@ -219,8 +230,7 @@ impl Spi {
                 out |= output::DRIVES_MOSI | if self.mosi { output::MOSI } else { 0 };
             }
             if self.ddrb & DDRB_SCK != 0 {
-                let high = self.has(CPOL) != (self.edges & 1 == 1);
-                out |= output::DRIVES_SCK | if high { output::SCK } else { 0 };
+                out |= output::DRIVES_SCK | if self.sck_of_edges() { output::SCK } else { 0 };
             }
         } else if ss_low && self.ddrb & DDRB_MISO != 0 {
             out |= output::DRIVES_MISO | if self.miso { output::MISO } else { 0 };

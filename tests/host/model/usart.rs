@@ -42,7 +42,7 @@ pub struct Usart {
 }
 
 /// A bit of a register, where the condition holds.
-fn bit(condition: bool, mask: u8) -> u8 {
+pub fn bit(condition: bool, mask: u8) -> u8 {
     if condition {
         mask
     } else {
@@ -80,6 +80,11 @@ impl Usart {
     /// A frame is in shift or buffer, or between first low sample and stop decision: settings are held.
     fn under_way(&self) -> bool {
         self.sender.busy() || self.receiver.busy()
+    }
+
+    /// A frame is being sent or received. It began at a tick and UBRR is held, so the counter is not above UBRR.
+    pub fn in_frame(&self) -> bool {
+        self.sender.shifter.is_some() || self.receiver.busy()
     }
 
     /// Sets the format; a change while a frame is under way is refused.
