@@ -1,5 +1,5 @@
 //! Compares the archive `libwarpmagpie.a` with the model in model/: random histories, random devices, damaged records,
-//! lines at the limits of the rate error, and devices joined by wires.
+//! lines at the limits of the rate error, devices joined by wires, and records that break one rule.
 //!
 //! compare [--seed N] [--scale K]
 
@@ -8,6 +8,8 @@ mod model;
 
 #[path = "compare/archive.rs"]
 mod archive;
+#[path = "compare/broken.rs"]
+mod broken;
 #[path = "compare/call.rs"]
 mod call;
 #[path = "compare/choice.rs"]
@@ -43,12 +45,13 @@ const SEED: u64 = 20240328;
 type Part = fn(u64, &mut Random, &mut Tally) -> Result<(), String>;
 
 /// The parts, and how many histories, devices, records or rounds each does at scale 1.
-const PARTS: [(&str, Part, u64); 5] = [
+const PARTS: [(&str, Part, u64); 6] = [
     ("random histories", histories::run, 36_000),
     ("random valid devices", devices::run, 1_400_000),
     ("damaged records", damage::run, 4_500_000),
     ("lines at the limits", lines::run, 35),
     ("devices joined by wires", wires::run, 35),
+    ("records that break one rule", broken::run, 10_000),
 ];
 
 fn main() {

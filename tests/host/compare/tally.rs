@@ -22,6 +22,8 @@ pub struct Tally {
     pub line_frames: u64,
     pub wire_frames: u64,
     pub wire_bytes: u64,
+    pub rules_broken: u64,
+    pub broken_records: u64,
 }
 
 impl Tally {
@@ -72,6 +74,8 @@ impl Tally {
             ("frames on lines at the limits", self.line_frames),
             ("frames from device to device", self.wire_frames),
             ("SPI bytes from device to device", self.wire_bytes),
+            ("rules broken one at a time", self.rules_broken),
+            ("records that break one rule", self.broken_records),
         ];
         for (name, count) in rows {
             println!("{name:34}{count:>12}");
