@@ -11,13 +11,13 @@ use crate::model::layout;
 use crate::model::receiver::{Line, Receiving};
 use crate::model::record::{decode, Bytes};
 use crate::model::spi::{CPHA, MSTR, SPE};
+use crate::model::usart::UBRR_LAST;
 use crate::model::Device;
 use crate::pair::Pair;
 use crate::random::Random;
 use crate::tally::{Tally, KINDS};
 
 const LONGEST_RUN: u64 = 40;
-const UBRR_LAST: u16 = 4095;
 
 /// A rule: what breaks it, the devices in which that can be done, and how.
 struct Rule {

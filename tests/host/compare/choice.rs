@@ -12,6 +12,7 @@ pub fn random_call<'a>(
     longest: u64,
     random: &mut Random,
 ) -> Call<'a> {
+    // Runs, writes, reads, vectors, reports and resets.
     let kind = match random.below(1000) {
         0..=419 => 4,
         420..=689 => 1,

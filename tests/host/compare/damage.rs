@@ -1,5 +1,5 @@
-//! Part 3: damaged records. 5 must be answered exactly when the model finds no device in the bytes. Its long form, with
-//! more than ten million of them, is scale 3: `make compare SCALE=3` damages 13.5 million.
+//! Part 3: damaged records. 5 must be answered exactly when the model finds no device in the bytes. The long form is
+//! `make compare SCALE=3`, or more: 13.5 million records, of which more than ten million differ from what they were.
 
 use crate::call::compare;
 use crate::choice::{call_of_kind, random_call};
@@ -8,7 +8,8 @@ use crate::levels::Levels;
 use crate::model::layout::{self, held, LENGTH};
 use crate::model::receiver::Line;
 use crate::model::record::decode;
-use crate::model::usart::{Usart, RXB8, TXC, U2X};
+use crate::model::spi::EDGES;
+use crate::model::usart::{Usart, RXB8, TXC, U2X, UBRR_LAST};
 use crate::model::Device;
 use crate::pair::Pair;
 use crate::random::Random;
@@ -106,7 +107,7 @@ fn limit(place: usize, device: &Device) -> u16 {
     match place {
         layout::UCSR0A => (TXC | U2X) as u16 + 1,
         layout::UCSR0B => !RXB8 as u16 + 1,
-        layout::UCSR0C => 0x3F,
+        layout::UCSR0C => 0x3E + 1,
         layout::SENT_BIT => format.last_bit() as u16 + 1,
         layout::SENT_TICKS => format.ticks() as u16,
         layout::SAMPLED_BIT => format.word_bits() as u16 + 2,
@@ -118,7 +119,7 @@ fn limit(place: usize, device: &Device) -> u16 {
         layout::OLDEST_FLAGS | layout::SECOND_FLAGS => held::LIMIT as u16,
         layout::OLDEST_DATA | layout::SECOND_DATA => 256,
         layout::SPCR | layout::DDRB | layout::SHIFT | layout::SPI_BUFFER => 256,
-        layout::EDGES => 16,
+        layout::EDGES => EDGES as u16,
         layout::CLOCKS_LEFT => device.spi.half() as u16 + 1,
         layout::NUMBER_PLACE => layout::NUMBER as u16 + 1,
         _ if layout::is_unused(place) => 1,
@@ -129,9 +130,13 @@ fn limit(place: usize, device: &Device) -> u16 {
 /// The greatest value of each field that is a word, at the field's place.
 fn last_words(usart: &Usart) -> [(usize, u16); 5] {
     let format = &usart.format;
-    let counter = if usart.in_frame() { usart.ubrr } else { 4095 };
+    let counter = if usart.in_frame() {
+        usart.ubrr
+    } else {
+        UBRR_LAST
+    };
     [
-        (layout::UBRR, 4095),
+        (layout::UBRR, UBRR_LAST),
         (layout::COUNTER, counter),
         (layout::BUFFER, format.data_mask()),
         (layout::SENT_WORD, format.word_mask()),

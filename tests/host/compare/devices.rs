@@ -6,8 +6,8 @@ use crate::levels::Levels;
 use crate::model::frame::{Format, Parity};
 use crate::model::receiver::{Line, Received, Receiver, Receiving};
 use crate::model::sender::{Sender, Shifting};
-use crate::model::spi::{Flag, Spi, MSTR, SPE};
-use crate::model::usart::Usart;
+use crate::model::spi::{Flag, Spi, EDGES, MSTR, SPE};
+use crate::model::usart::{Usart, UBRR_LAST};
 use crate::model::Device;
 use crate::pair::Pair;
 use crate::random::Random;
@@ -62,7 +62,7 @@ fn random_baud(random: &mut Random) -> u16 {
     if random.percent(75) {
         random.below(4) as u16
     } else {
-        random.below(4096) as u16
+        random.between(0, UBRR_LAST as u64) as u16
     }
 }
 
@@ -168,7 +168,7 @@ fn random_spi(random: &mut Random) -> Spi {
 
 /// A byte under way: the bit that is out is on its pin, and a slave's SCK where the last edge brought it.
 fn put_into_transfer(spi: &mut Spi, random: &mut Random) {
-    spi.edges = random.below(16) as u8;
+    spi.edges = random.below(EDGES as u64) as u8;
     let out = spi.first_bit_is_out().then_some(spi.first_bit());
     if spi.has(MSTR) {
         spi.clocks_left = random.between(1, spi.half() as u64) as u8;

@@ -5,12 +5,9 @@ use super::layout::{self, held};
 use super::receiver::{Line, Received, Receiver, Receiving};
 use super::record::Bytes;
 use super::sender::{Sender, Shifting};
-use super::spi::{Flag, Spi, MSTR, SPE};
-use super::usart::{Usart, RXCIE, RXEN, TXB8, TXC, TXCIE, TXEN, U2X, UCSZ2, UDRIE, USBS};
+use super::spi::{Flag, Spi, EDGES, MSTR, SPE};
+use super::usart::{Usart, RXCIE, RXEN, TXB8, TXC, TXCIE, TXEN, U2X, UBRR_LAST, UCSZ2, UDRIE, USBS};
 use super::Device;
-
-const UBRR_LIMIT: u16 = 4096;
-const EDGES_LIMIT: u8 = 16;
 
 /// The device of the fields in use, none if one is out of its range or does not fit the others. Bits and bytes not in
 /// use are not looked at.
@@ -42,8 +39,8 @@ fn get_usart(bytes: &Bytes) -> Option<Usart> {
     let format = get_format(bytes)?;
     let usart = Usart {
         format,
-        ubrr: get_word(bytes, layout::UBRR, UBRR_LIMIT)?,
-        counter: get_word(bytes, layout::COUNTER, UBRR_LIMIT)?,
+        ubrr: get_word(bytes, layout::UBRR, UBRR_LAST + 1)?,
+        counter: get_word(bytes, layout::COUNTER, UBRR_LAST + 1)?,
         rxcie: get_bit(bytes, layout::UCSR0B, RXCIE),
         txcie: get_bit(bytes, layout::UCSR0B, TXCIE),
         udrie: get_bit(bytes, layout::UCSR0B, UDRIE),
@@ -161,7 +158,7 @@ fn get_spi(bytes: &Bytes) -> Option<Spi> {
         ddrb: bytes[layout::DDRB],
         shift: bytes[layout::SHIFT],
         buffer: bytes[layout::SPI_BUFFER],
-        edges: get_below(bytes, layout::EDGES, EDGES_LIMIT)?,
+        edges: get_below(bytes, layout::EDGES, EDGES)?,
         clocks_left: bytes[layout::CLOCKS_LEFT],
         spif: get_flag(bytes, layout::SPIF)?,
         wcol: get_flag(bytes, layout::WCOL)?,
@@ -185,8 +182,8 @@ fn master_fits(spi: &Spi) -> bool {
     spi.clocks_left <= spi.half() && (!spi.first_bit_is_out() || spi.mosi == spi.first_bit())
 }
 
-/// A slave does not wait. Once it has seen an edge of a byte, the bit that has not left is on MISO, and SCK is where the
-/// last edge brought it.
+/// A slave does not wait. Once it has seen an edge of a byte, the bit that has not left is on MISO, and SCK is where
+/// the last edge brought it.
 fn slave_fits(spi: &Spi) -> bool {
     let bit_fits = !spi.first_bit_is_out() || spi.miso == spi.first_bit();
     let edges_fit = spi.edges == 0 || bit_fits && spi.sck == spi.sck_of_edges();

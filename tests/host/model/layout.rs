@@ -1,5 +1,5 @@
-//! Where the fields of a record stand, as docs/RECORD.md describes them, how long it is, and the number of its layout. A
-//! word stands at its low byte.
+//! Where the fields of a record stand, as docs/RECORD.md describes them, how long it is, and the number of its layout.
+//! A word stands at its low byte.
 
 pub const LENGTH: usize = 64;
 

@@ -21,6 +21,9 @@ pub const DDRB_MOSI: u8 = 0x08;
 pub const DDRB_MISO: u8 = 0x10;
 pub const DDRB_SCK: u8 = 0x20;
 
+/// Edges of SCK in a byte.
+pub const EDGES: u8 = 16;
+
 /// Clock divisor by SPI2X, SPR1, SPR0.
 pub const DIVISORS: [u8; 8] = [4, 16, 64, 128, 2, 8, 32, 64];
 
@@ -180,7 +183,7 @@ impl Spi {
         if samples {
             self.shift_in(input);
         }
-        if self.edges == 16 {
+        if self.edges == EDGES {
             self.edges = 0;
             self.buffer = self.shift;
             self.spif.set();

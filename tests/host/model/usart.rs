@@ -28,6 +28,9 @@ pub const TXB8: u8 = 0x01;
 pub const USBS: u8 = 0x08;
 pub const UCPOL: u8 = 0x01;
 
+/// UBRR has twelve bits, and so has the baud counter.
+pub const UBRR_LAST: u16 = 0xFFF;
+
 #[derive(Clone, Copy, PartialEq, Debug)]
 pub struct Usart {
     pub format: Format,
