@@ -21,11 +21,14 @@ enum {
     BYTES = 0x100,
     SHORT_STRIDE = 7, /* prime, so that all low bytes come up */
     CALLS_IN_A_HISTORY = 200,
-    HISTORIES = 50
+    HISTORIES = 50,
+    NUMBER_PLACE = 63, /* of the record's layout, and which it is */
+    NUMBER = 2
 };
 
-/* Unused bytes of the record (docs/RECORD.md). */
-static const size_t UNUSED[] = {43, 44, 45, 46, 47, 60, 61, 62, 63};
+/* Bytes of the record that are unused, or wait for a request (docs/RECORD.md). */
+static const size_t UNUSED[] = {7,  24, 26, 30, 33, 34, 35, 36, 37, 38, 39,
+                                40, 41, 42, 43, 44, 45, 46, 47, 60, 61, 62};
 
 static const uint16_t REGISTERS[] = {WARPMAGPIE_UCSR0A, WARPMAGPIE_UCSR0B, WARPMAGPIE_UCSR0C, WARPMAGPIE_UBRR0L, WARPMAGPIE_UBRR0H,
                                      WARPMAGPIE_UDR0, WARPMAGPIE_SPCR, WARPMAGPIE_SPSR, WARPMAGPIE_SPDR, WARPMAGPIE_DDRB};
@@ -244,19 +247,33 @@ static void record_lengths(const struct plan *plan)
             }
 }
 
-/* A byte of the record that is not in use and not 0: every call but reset refuses, before it looks at anything else. */
-static void unused_bytes(const struct plan *plan)
+/* With this byte every call but reset refuses the sample, before it looks at anything else. */
+static void refuses_byte(const struct plan *plan, size_t place, uint8_t value)
 {
     uint8_t bytes[WARPMAGPIE_RECORD_LEN];
+    sample(bytes);
+    bytes[place] = value;
+    for (int which = WRITE; which < CALLS; which++) {
+        struct piece record = make(bytes, sizeof bytes, sizeof bytes, plan->guard);
+        refuses_record(which, &record, value & 1, place);
+        drop(&record);
+    }
+}
+
+/* A byte of the record that is not in use and not 0. */
+static void unused_bytes(const struct plan *plan)
+{
     for (size_t i = 0; i < COUNT(UNUSED); i++)
         for (unsigned value = 1; value < BYTES; value += plan->stride)
-            for (int which = WRITE; which < CALLS; which++) {
-                sample(bytes);
-                bytes[UNUSED[i]] = (uint8_t)value;
-                struct piece record = make(bytes, sizeof bytes, sizeof bytes, plan->guard);
-                refuses_record(which, &record, value & 1, UNUSED[i]);
-                drop(&record);
-            }
+            refuses_byte(plan, UNUSED[i], (uint8_t)value);
+}
+
+/* The number of another layout. */
+static void layout_numbers(const struct plan *plan)
+{
+    for (unsigned value = 0; value < BYTES; value += plan->stride)
+        if (value != NUMBER)
+            refuses_byte(plan, NUMBER_PLACE, (uint8_t)value);
 }
 
 /* Whatever one byte of the record is changed to, either all calls but reset take the record or none does. */
@@ -513,6 +530,7 @@ int main(int argc, char **argv)
         plan.guard = exact ? 0 : GUARD_LEN;
         record_lengths(&plan);
         unused_bytes(&plan);
+        layout_numbers(&plan);
         calls_agree(&plan);
         resets(&plan);
         run_lengths(&plan);

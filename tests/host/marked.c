@@ -117,7 +117,7 @@ static void refusals(void)
     expect("short record", warpmagpie_read(record, 63, WARPMAGPIE_UCSR0A, &value), WARPMAGPIE_REFUSED_RECORD);
     expect("value of a refused read", value, 0);
     expect("record untouched", (unsigned)memcmp(before, record, sizeof before), 0);
-    record[63] = 1;
+    record[62] = 1;
     expect("stray byte", warpmagpie_requests(record, sizeof record, &value), WARPMAGPIE_REFUSED_RECORD);
     done("reset of any bytes", warpmagpie_reset(record, sizeof record));
     expect("record after reset", (unsigned)memcmp(before, record, sizeof before), 0);
