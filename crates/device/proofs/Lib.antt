@@ -6,3 +6,4 @@ pub mod ValidLaws
 pub mod RunLaws
 pub mod LoopLaws
 pub mod HoldingLaws
+pub mod CountingLaws

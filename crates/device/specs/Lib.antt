@@ -5,6 +5,7 @@ pub mod Bytes
 pub mod Register
 pub mod Run
 pub mod Holding
+pub mod Counting
 pub mod ByUnit
 pub mod Serial
 pub mod Valid
