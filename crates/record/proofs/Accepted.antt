@@ -2,14 +2,13 @@
 -- program that changes a definition is refused here first.
 use mathlib.Core.Path.{_≡_, refl}
 use Rattle.usart.specs.Settings.{sizeOf, parityOf}
-use Rattle.spi.specs.Control.{divisorNumber}
 use Rattle.device.specs.Unit.{resetDevice}
 use Rattle.record.specs.Codes.{flagOf}
 use Rattle.record.specs.Parts.{bufferFrom, shifterFrom, samplerFrom, placesFrom}
-use Rattle.record.specs.Ranges.{isUndecided, disabledFits, enabledFits, dueFits, inRange}
-use Rattle.record.specs.Codec.{recordOf, decodeOf, eqList}
+use Rattle.record.specs.Accepts.{isWithin, counterFits, bufferFits, shifterFits, samplerFits, placesFit, enabledFits, usartFits, spiFits, accepts, isRecord}
+use Rattle.record.specs.Codec.{recordOf, decodeOf}
 use Rattle.record.specs.declared.codec.Decoded.the-variants.{Accepted}
 
 pub reset-accepted : decodeOf (recordOf resetDevice) ≡ Accepted resetDevice
-unfolding recordOf decodeOf eqList sizeOf parityOf divisorNumber flagOf bufferFrom shifterFrom samplerFrom placesFrom isUndecided disabledFits enabledFits dueFits inRange
+unfolding recordOf decodeOf sizeOf parityOf flagOf bufferFrom shifterFrom samplerFrom placesFrom isWithin counterFits bufferFits shifterFits samplerFits placesFit enabledFits usartFits spiFits accepts isRecord
 reset-accepted = refl

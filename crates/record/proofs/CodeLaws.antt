@@ -4,7 +4,10 @@ use mathlib.Core.Bool.{Bool, true, false, not}
 use mathlib.Core.Path.{_≡_, refl, sym, ap, _∙_}
 use native.Mathlib.Nat.{pow-suc, pow-le-pow-right}
 use native.Mathlib.Omega.{arith}
-use lib.Dec.{eqb}
+use lib.Dec.{eqb, ltb}
+use borrow.Author.Tests.{lt-ltb, le-ltb}
+use Rattle.choice.specs.Pick.{pick}
+use lib.Pow.{pow-pos}
 use Rattle.frame.specs.Format.{dataBits, wordBits}
 use Rattle.frame.specs.declared.format.Size.{Size}
 use Rattle.frame.specs.declared.format.Size.the-variants.{Five, Six, Seven, Eight, Nine}
@@ -28,7 +31,8 @@ use Rattle.spi.specs.declared.flag.Flag.{Flag}
 use Rattle.spi.specs.declared.flag.Flag.the-variants.{Clear, Set, Armed}
 use Rattle.record.specs.Codes.{knownSize, flagCode, flagOf}
 use Rattle.record.specs.Parts.{bufferData, bufferFrom, transmissionIn, shifterFrom, rememberedIn, receptionIn, samplerFrom, heldCount, secondIn, placesFrom}
-use Rattle.record.specs.Layout.{low, high, bit}
+use Rattle.record.specs.Layout.{low, high}
+use Rattle.record.specs.Image.{bit}
 
 half-power : (n : ℕ) → 1 ≤ n → 2 ^ (n - 1) * 2 ≡ 2 ^ n
 half-power zero h = absurd (omega arith)
@@ -44,7 +48,7 @@ data-limit z = pow-le-pow-right {n = 2} (omega arith) {i = dataBits z} {j = 9} (
 pub word-limit : (f : Format) → 2 ^ wordBits f ≤ 1024
 word-limit f = pow-le-pow-right {n = 2} (omega arith) {i = wordBits f} {j = 10} (word-bits-range f .1)
 
-pub word-parts : (x : ℕ) → x < 65536 → low x % 256 + 256 * (high x % 256) ≡ x
+pub word-parts : (x : ℕ) → x < 65536 → low x + 256 * high x ≡ x
 word-parts x h = omega arith
 
 pub flag-bit : (b : Bool) → eqb (bit b) 1 ≡ b
@@ -91,3 +95,18 @@ unfolding placesFrom
 places-again Empty = refl
 places-again (One a) = refl
 places-again (Two a b) = refl
+
+-- one bit, shifted up
+pub shifted-one : (n : ℕ) → n ≤ 11 → (1 * 2 ^ n % 65536 ≡ 2 ^ n) × (1 ≤ 1 * 2 ^ n % 65536)
+shifted-one n h =
+    let most : 2 ^ n ≤ 2048 = pow-le-pow-right {n = 2} (omega arith) {i = n} {j = 11} h in
+    let least = pow-pos n in
+    (omega arith, omega (arith, least))
+
+-- bits that have not come in, with b the bit that is sampled and s its samples: before its last vote, and from there on
+
+pub missing-before : (D v s b : ℕ) {n : ℕ} → s < v + 2 → n ≡ D + 1 - b → n ≡ D + 1 - pick (ltb s (v + 2)) b (b + 1)
+missing-before D v s b h e = rw (lt-ltb s (v + 2) h) e
+
+pub missing-after : (D v s b : ℕ) {n : ℕ} → v + 2 ≤ s → n ≡ D - b → n ≡ D + 1 - pick (ltb s (v + 2)) b (b + 1)
+missing-after D v s b {n} h e = rw (le-ltb s (v + 2) h) (let q : n ≡ D + 1 - (b + 1) = omega arith in q)

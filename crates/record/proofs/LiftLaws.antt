@@ -4,11 +4,9 @@ use mathlib.Core.Bool.{Bool, true, false}
 use mathlib.Core.Path.{_≡_, refl, ap, ap₂, _∙_}
 use native.Mathlib.Omega.{arith}
 use Rattle.frame.specs.Format.{dataBits, wordBits}
-use Rattle.frame.specs.declared.format.Size.the-variants.{Eight}
-use Rattle.frame.specs.declared.format.Parity.the-variants.{Off}
 use Rattle.frame.specs.declared.format.Format.{Format}
+use Rattle.frame.proofs.WordLaws.{frame-lt}
 use Rattle.usart.specs.Queue.{oldestOf}
-use Rattle.usart.specs.Unit.{resetUsart}
 use Rattle.usart.specs.Valid.{ValidBuffer, ValidShifter, ValidSampler, ValidPlaces}
 use Rattle.usart.specs.declared.sender.Buffer.{Buffer}
 use Rattle.usart.specs.declared.sender.Buffer.the-variants.{Vacant, Full}
@@ -18,32 +16,14 @@ use Rattle.usart.specs.declared.sampler.Sampler.{Sampler}
 use Rattle.usart.specs.declared.sampler.Sampler.the-variants.{Idle, Receiving}
 use Rattle.usart.specs.declared.queue.Places.{Places}
 use Rattle.usart.specs.declared.queue.Places.the-variants.{Empty, One, Two}
-use Rattle.spi.specs.Unit.{resetSpi}
 use Rattle.device.specs.Valid.{Valid}
 use Rattle.device.specs.declared.unit.Device.{Device}
+use Rattle.record.specs.Layout.{ucsr0aByte, dataByte, oldestByte, nextByte, byteAt, wordAt}
 use Rattle.record.specs.Parts.{bufferData, bufferFrom, transmissionIn, shifterFrom, receptionIn, samplerFrom, secondIn, placesFrom}
-use Rattle.record.specs.Layout.{imageOf}
-use Rattle.record.specs.Lift.{baudAt, formatWith, formatAt, controlAt, bufferAt, transmissionAt, shifterAt, senderWith, senderAt, receptionAt, samplerAt, oldestAt, secondAt, queueWith, queueAt, usartAt, spiControlAt, flagsAt, pinsAt, spiAt, deviceAt}
-use Rattle.record.proofs.CodeLaws.{data-limit, word-limit, word-parts, flag-bit, size-again, parity-again, flag-again, buffer-again, shifter-again, sampler-again, places-again}
-
--- a closed case first: the two flags of the format, each from its own byte
-abbrev formatted : Bool → Bool → Device
-formatted usbs u2x = record {
-  usart = record {
-    baud = resetUsart .baud;
-    format = record { size = Eight; parity = Off; usbs = usbs; u2x = u2x };
-    control = resetUsart .control;
-    sender = resetUsart .sender;
-    receiver = resetUsart .receiver;
-  };
-  spi = resetSpi;
-}
-
-flags-apart : (usbs u2x : Bool) → let f = formatAt (imageOf (formatted usbs u2x)) in (f .usbs ≡ usbs) × (f .u2x ≡ u2x)
-flags-apart true true = (refl, refl)
-flags-apart true false = (refl, refl)
-flags-apart false true = (refl, refl)
-flags-apart false false = (refl, refl)
+use Rattle.record.specs.Image.{imageOf}
+use Rattle.record.specs.Lift.{baudAt, formatAt, controlAt, bufferAt, transmissionAt, shifterAt, senderWith, senderAt, receptionAt, samplerAt, frameAt, queueWith, queueAt, usartAt, spiControlAt, flagsAt, pinsAt, spiAt, deviceAt}
+use Rattle.record.proofs.CodeLaws.{data-limit, word-limit, word-parts, flag-bit, flag-again, buffer-again, shifter-again, sampler-again, places-again}
+use Rattle.record.proofs.RegisterLaws.{txc-again, format-again, control-again, frame-again}
 
 -- the words of valid parts
 
@@ -53,7 +33,7 @@ data-lt f (Full d) v = let l = data-limit (f .size) in let w : d < 2 ^ dataBits 
 
 pub sent-lt : (f : Format) (s : ShiftRegister) → ValidShifter f s → transmissionIn s .word < 1024
 sent-lt f Resting v = omega arith
-sent-lt f (Sending t) v = let l = word-limit f in let w : t .word < 2 ^ wordBits f = v .word in omega arith
+sent-lt f (Sending t) v = let l = word-limit f in let w = frame-lt f (t .word) (v .word) in omega arith
 
 pub received-lt : (f : Format) (s : Sampler) → ValidSampler f s → receptionIn s .word < 1024
 received-lt f (Idle last) v = omega arith
@@ -70,7 +50,7 @@ second-lt (One a) v = omega arith
 second-lt (Two a b) v = v .1
 
 module _ (d : Device) (v : Valid d) where
-  baud-law : baudAt (imageOf d) ≡ d .usart .baud
+  pub baud-law : baudAt (imageOf d) ≡ d .usart .baud
   baud-law =
       let u : d .usart .baud .ubrr < 4096 = v .usart .baud .ubrr in
       let l : d .usart .baud .left .0 < 4096 = v .usart .baud .left in
@@ -78,19 +58,21 @@ module _ (d : Device) (v : Valid d) where
       let l' : d .usart .baud .left .0 < 65536 = omega arith in
       simp (word-parts)
 
-  format-law : formatAt (imageOf d) ≡ d .usart .format
-  format-law =
-      ap₂ (formatWith (imageOf d)) (size-again (d .usart .format .size)) (parity-again (d .usart .format .parity)) ∙ simp (flag-bit)
+  pub format-law : formatAt (imageOf d) ≡ d .usart .format
+  format-law = format-again (d .usart .format) (d .usart .control) (d .usart .sender .txc)
 
-  control-law : controlAt (imageOf d) ≡ d .usart .control
-  control-law = simp (flag-bit)
+  pub control-law : controlAt (imageOf d) ≡ d .usart .control
+  control-law = control-again (d .usart .format) (d .usart .control) (d .usart .sender .txc)
+
+  pub data-law : wordAt (imageOf d) dataByte ≡ bufferData (d .usart .sender .buffer)
+  data-law =
+      let l : bufferData (d .usart .sender .buffer) < 512 = data-lt (d .usart .format) (d .usart .sender .buffer) (v .usart .sender .buffer) in
+      word-parts (bufferData (d .usart .sender .buffer)) (omega arith)
 
   buffer-law : bufferAt (imageOf d) ≡ d .usart .sender .buffer
-  buffer-law =
-      let l : bufferData (d .usart .sender .buffer) < 512 = data-lt (d .usart .format) (d .usart .sender .buffer) (v .usart .sender .buffer) in
-      ap₂ bufferFrom (flag-bit _) (word-parts (bufferData (d .usart .sender .buffer)) (omega arith)) ∙ buffer-again (d .usart .sender .buffer)
+  buffer-law = ap₂ bufferFrom (flag-bit _) data-law ∙ buffer-again (d .usart .sender .buffer)
 
-  transmission-law : transmissionAt (imageOf d) ≡ transmissionIn (d .usart .sender .shifter)
+  pub transmission-law : transmissionAt (imageOf d) ≡ transmissionIn (d .usart .sender .shifter)
   transmission-law =
       let l : transmissionIn (d .usart .sender .shifter) .word < 1024 =
       sent-lt (d .usart .format) (d .usart .sender .shifter) (v .usart .sender .shifter) in
@@ -101,9 +83,11 @@ module _ (d : Device) (v : Valid d) where
   shifter-law = ap₂ shifterFrom (flag-bit _) transmission-law ∙ shifter-again (d .usart .sender .shifter)
 
   sender-law : senderAt (imageOf d) ≡ d .usart .sender
-  sender-law = ap₂ (senderWith (imageOf d)) buffer-law shifter-law ∙ simp (flag-bit)
+  sender-law =
+      ap₂ (senderWith (byteAt (imageOf d) ucsr0aByte)) buffer-law shifter-law
+      ∙ rw (txc-again (d .usart .format) (d .usart .control) (d .usart .sender .txc))
 
-  reception-law : receptionAt (imageOf d) ≡ receptionIn (d .usart .receiver .sampler)
+  pub reception-law : receptionAt (imageOf d) ≡ receptionIn (d .usart .receiver .sampler)
   reception-law =
       let l : receptionIn (d .usart .receiver .sampler) .word < 1024 =
       received-lt (d .usart .format) (d .usart .receiver .sampler) (v .usart .receiver .sampler) in
@@ -116,23 +100,17 @@ module _ (d : Device) (v : Valid d) where
       ∙ ap (samplerFrom _ _) reception-law
       ∙ sampler-again (d .usart .receiver .sampler)
 
-  oldest-law : oldestAt (imageOf d) ≡ oldestOf (d .usart .receiver .queue .places)
+  oldest-law : frameAt (imageOf d) oldestByte ≡ oldestOf (d .usart .receiver .queue .places)
   oldest-law =
-      let l : oldestOf (d .usart .receiver .queue .places) .«data» < 512 =
-      oldest-lt (d .usart .receiver .queue .places) (v .usart .receiver .places) in
-      let l' : oldestOf (d .usart .receiver .queue .places) .«data» < 65536 = omega arith in
-      simp (word-parts, flag-bit)
+      frame-again (oldestOf (d .usart .receiver .queue .places)) (oldest-lt (d .usart .receiver .queue .places) (v .usart .receiver .places))
 
-  second-law : secondAt (imageOf d) ≡ secondIn (d .usart .receiver .queue .places)
+  second-law : frameAt (imageOf d) nextByte ≡ secondIn (d .usart .receiver .queue .places)
   second-law =
-      let l : secondIn (d .usart .receiver .queue .places) .«data» < 512 =
-      second-lt (d .usart .receiver .queue .places) (v .usart .receiver .places) in
-      let l' : secondIn (d .usart .receiver .queue .places) .«data» < 65536 = omega arith in
-      simp (word-parts, flag-bit)
+      frame-again (secondIn (d .usart .receiver .queue .places)) (second-lt (d .usart .receiver .queue .places) (v .usart .receiver .places))
 
   queue-law : queueAt (imageOf d) ≡ d .usart .receiver .queue
   queue-law =
-      ap (queueWith (imageOf d)) (ap₂ (placesFrom _) oldest-law second-law ∙ places-again (d .usart .receiver .queue .places)) ∙ simp (flag-bit)
+      ap (queueWith _) (ap₂ (placesFrom _) oldest-law second-law ∙ places-again (d .usart .receiver .queue .places)) ∙ simp (flag-bit)
 
   usart-law : usartAt (imageOf d) ≡ d .usart
   usart-law = rw (baud-law, format-law, control-law, sender-law, sampler-law, queue-law)
@@ -146,7 +124,7 @@ module _ (d : Device) (v : Valid d) where
   pins-law : pinsAt (imageOf d) ≡ d .spi .pins
   pins-law = simp (flag-bit)
 
-  spi-law : spiAt (imageOf d) ≡ d .spi
+  pub spi-law : spiAt (imageOf d) ≡ d .spi
   spi-law = rw (spi-control-law, flags-law, pins-law)
 
   pub lifted : deviceAt (imageOf d) ≡ d

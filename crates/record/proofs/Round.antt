@@ -1,25 +1,27 @@
 -- Devices and records, one for one: the record of a valid device is accepted as that device, what is accepted is the record of its device,
 -- which is valid, and each byte of it is below its limit. Assumes nothing.
-use Prim.Native.Nat.{ℕ, _<_}
-use mathlib.Core.Bool.{true}
-use mathlib.Core.List.{List}
+use Prim.Native.Nat.{ℕ, zero, suc, _<_}
+use mathlib.Core.Bool.{Bool, true, false}
+use mathlib.Core.List.{List, [], _∷_, map}
 use mathlib.Core.Path.{_≡_, refl, sym, ap, subst, _∙_}
 use native.Mathlib.Omega.{arith}
+use lib.Dec.{eqb}
 use lib.ListN.{length, getD}
-use borrow.Author.Tests.{eq-eqb, ne-eqb}
-use Rattle.choice.proofs.Picks.{pick-true, pick-false}
+use borrow.Author.Tests.{eqb-true, eq-eqb, ne-eqb}
+use Rattle.choice.specs.Pick.{pick}
+use Rattle.choice.proofs.Picks.{pick-true, pick-false, both}
 use Rattle.device.specs.Valid.{Valid}
 use Rattle.device.specs.declared.unit.Device.{Device}
-use Rattle.record.specs.Layout.{limits}
+use Rattle.record.specs.Layout.{recordLength, most, limits, byteAt}
+use Rattle.record.specs.Image.{imageOf}
 use Rattle.record.specs.Lift.{deviceAt}
-use Rattle.record.specs.Ranges.{inRange}
+use Rattle.record.specs.Accepts.{accepts, isRecord}
 use Rattle.record.specs.Codec.{recordOf, decodeOf, storedOver}
 use Rattle.record.specs.declared.codec.Decoded.{Decoded}
 use Rattle.record.specs.declared.codec.Decoded.the-variants.{Accepted, Refused}
-use Rattle.record.proofs.Images.{image, source}
-use Rattle.record.proofs.RangeLaws.{range-valid, valid-range}
 use Rattle.record.proofs.LiftLaws.{lifted}
-use Rattle.record.proofs.ByteLaws.{image-limits}
+use Rattle.record.proofs.AcceptLaws.{image-accepted}
+use Rattle.record.proofs.BytesLaws.{limit, valid-device, image-again}
 
 record-lifted : (d : Device) → Valid d → deviceAt (recordOf d) ≡ d
 unfolding recordOf
@@ -29,19 +31,38 @@ pub record-length : (d : Device) → length (recordOf d) ≡ 64
 unfolding recordOf
 record-length d = refl
 
+record-accepted : (d : Device) → Valid d → isRecord (recordOf d) ≡ true
+unfolding recordOf isRecord
+record-accepted d v = image-accepted d v
+
 pub decode-record : (d : Device) → Valid d → decodeOf (recordOf d) ≡ Accepted d
 unfolding decodeOf
-decode-record d v = image deviceAt recordOf inRange d (record-length d) (record-lifted d v) (valid-range d v)
+decode-record d v = sym (pick-true _ _ _ _ (record-accepted d v) (ap Accepted (sym (record-lifted d v))))
 
-accepted-source : (s : List ℕ) (d : Device) → decodeOf s ≡ Accepted d → (recordOf d ≡ s) × (inRange d ≡ true)
-unfolding decodeOf
-accepted-source s d h = source deviceAt recordOf inRange s d h
+-- what is accepted, and as which device
+record Source (s : List ℕ) (d : Device) : Type 0 where
+  tested : accepts s ≡ true
+  size : length s ≡ recordLength
+  device : deviceAt s ≡ d
+
+pick-accepted : (t : Bool) (a d : Device) → pick t (Accepted a) Refused ≡ Accepted d → (t ≡ true) × (a ≡ d)
+pick-accepted true a d h = (refl, cc)
+pick-accepted false a d h = absurd (let z : _≡_ {A = ℕ} 0 1 = cc in omega arith)
+
+accepted-source : (s : List ℕ) (d : Device) → decodeOf s ≡ Accepted d → Source s d
+unfolding decodeOf isRecord
+accepted-source s d h =
+    let a = pick-accepted (isRecord s) (deviceAt s) d h in
+    let b = both (eqb (length s) recordLength) (accepts s) (a .0) in
+    record { tested = b .1; size = eqb-true (length s) recordLength (b .0); device = a .1 }
 
 pub record-decode : (s : List ℕ) (d : Device) → decodeOf s ≡ Accepted d → recordOf d ≡ s
-record-decode s d h = accepted-source s d h .0
+unfolding recordOf
+record-decode s d h =
+    let q = accepted-source s d h in ap imageOf (sym (q .device)) ∙ image-again s (q .tested) (q .size)
 
 pub decode-valid : (s : List ℕ) (d : Device) → decodeOf s ≡ Accepted d → Valid d
-decode-valid s d h = range-valid d (accepted-source s d h .1)
+decode-valid s d h = let q = accepted-source s d h in subst Valid (q .device) (valid-device s (q .tested))
 
 pub decode-length : (s : List ℕ) (d : Device) → decodeOf s ≡ Accepted d → length s ≡ 64
 decode-length s d h = ap length (sym (record-decode s d h)) ∙ record-length d
@@ -72,10 +93,13 @@ none-refused s (Accepted d) h f = absurd (f d (decode-valid s d h) (record-decod
 pub refused-none : (s : List ℕ) → ((d : Device) → Valid d → recordOf d ≡ s → ⊥) → decodeOf s ≡ Refused
 refused-none s f = none-refused s (decodeOf s) refl f
 
-record-limits : (d : Device) → Valid d → (i : ℕ) → i < 64 → getD (recordOf d) i 0 < getD limits i 0
-unfolding recordOf
-record-limits d v i h = image-limits d v i h
+suc-at : (ms : List ℕ) (i : ℕ) → i < length ms → getD (map suc ms) i 0 ≡ suc (getD ms i 0)
+suc-at [] i h = absurd (omega arith)
+suc-at (m ∷ ms) zero h = refl
+suc-at (m ∷ ms) (suc i) h = suc-at ms i (omega arith)
 
 pub bytes-in-range : (s : List ℕ) (d : Device) → decodeOf s ≡ Accepted d → (i : ℕ) → i < 64 → getD s i 0 < getD limits i 0
 bytes-in-range s d h i l =
-    subst (λ (x : List ℕ). getD x i 0 < getD limits i 0) (record-decode s d h) (record-limits d (decode-valid s d h) i l)
+    let m = limit s (accepted-source s d h .tested) i l in
+    let e = suc-at most i l in
+    omega arith

@@ -1,70 +1,162 @@
--- The 64 bytes of a device (docs/RECORD.md). Every field has bytes of its own, a word's low byte goes first, and what is not in use is 0.
-use Prim.Native.Nat.{ℕ, _/_, _%_}
+-- Where each field of a record stands, and what each byte is at most (docs/RECORD.md).
+use Prim.Native.Nat.{ℕ, suc, _+_, _*_, _/_, _%_}
 use mathlib.Core.Bool.{Bool}
-use mathlib.Core.List.{List, [], _∷_}
-use mir.Val.{boolByte}
-use Rattle.frame.specs.declared.format.Format.{Format}
-use Rattle.usart.specs.Settings.{codeOf, upmOf}
-use Rattle.spi.specs.declared.flag.Flags.{Flags}
-use Rattle.device.specs.declared.unit.Device.{Device}
-use Rattle.record.specs.Codes.{flagCode}
-use Rattle.record.specs.Parts.{senderParts, receiverParts}
-use Rattle.record.specs.declared.parts.SenderParts.{SenderParts}
-use Rattle.record.specs.declared.parts.ReceiverParts.{ReceiverParts}
-use Rattle.record.specs.declared.encode.FormatCodes.{FormatCodes}
-use Rattle.record.specs.declared.encode.FlagCodes.{FlagCodes}
+use mathlib.Core.List.{List, [], _∷_, map}
+use lib.Dec.{eqb}
+use lib.ListN.{getD}
 
-abbrev pub formatCodes : Format → FormatCodes
-formatCodes f = record { size = codeOf (f .size); upm = upmOf (f .parity) }
+abbrev pub recordLength : ℕ
+recordLength = 64
 
-abbrev pub flagCodes : Flags → FlagCodes
-flagCodes f = record { spif = flagCode (f .spif); wcol = flagCode (f .wcol) }
+-- the number that a record of this layout has at `layoutByte`
+abbrev pub layoutNumber : ℕ
+layoutNumber = 2
+
+-- the serial unit's settings: UBRR, baud counter and registers
+
+abbrev pub ubrrByte : ℕ
+ubrrByte = 0
+
+abbrev pub leftByte : ℕ
+leftByte = 2
+
+abbrev pub ucsr0aByte : ℕ
+ucsr0aByte = 4
+
+abbrev pub ucsr0bByte : ℕ
+ucsr0bByte = 5
+
+abbrev pub ucsr0cByte : ℕ
+ucsr0cByte = 6
+
+-- the transmit buffer and the frame being sent
+
+abbrev pub fullByte : ℕ
+fullByte = 8
+
+abbrev pub dataByte : ℕ
+dataByte = 9
+
+abbrev pub sendingByte : ℕ
+sendingByte = 11
+
+abbrev pub sentWordByte : ℕ
+sentWordByte = 12
+
+abbrev pub sentBitByte : ℕ
+sentBitByte = 14
+
+abbrev pub sentTicksByte : ℕ
+sentTicksByte = 15
+
+-- the frame being received
+
+abbrev pub receivingByte : ℕ
+receivingByte = 16
+
+abbrev pub lastByte : ℕ
+lastByte = 17
+
+abbrev pub bitByte : ℕ
+bitByte = 18
+
+abbrev pub samplesByte : ℕ
+samplesByte = 19
+
+abbrev pub firstByte : ℕ
+firstByte = 20
+
+abbrev pub secondByte : ℕ
+secondByte = 21
+
+abbrev pub wordByte : ℕ
+wordByte = 22
+
+-- the frames held for reading: each its data's low byte, then its marks
+
+abbrev pub heldByte : ℕ
+heldByte = 25
+
+abbrev pub lostByte : ℕ
+lostByte = 27
+
+abbrev pub oldestByte : ℕ
+oldestByte = 28
+
+abbrev pub nextByte : ℕ
+nextByte = 31
+
+-- the SPI
+
+abbrev pub spcrByte : ℕ
+spcrByte = 48
+
+abbrev pub spi2xByte : ℕ
+spi2xByte = 49
+
+abbrev pub ddrbByte : ℕ
+ddrbByte = 50
+
+abbrev pub shiftByte : ℕ
+shiftByte = 51
+
+abbrev pub receivedByte : ℕ
+receivedByte = 52
+
+abbrev pub edgesByte : ℕ
+edgesByte = 53
+
+abbrev pub clocksByte : ℕ
+clocksByte = 54
+
+abbrev pub spifByte : ℕ
+spifByte = 55
+
+abbrev pub wcolByte : ℕ
+wcolByte = 56
+
+abbrev pub mosiByte : ℕ
+mosiByte = 57
+
+abbrev pub misoByte : ℕ
+misoByte = 58
+
+abbrev pub sckByte : ℕ
+sckByte = 59
+
+abbrev pub layoutByte : ℕ
+layoutByte = 63
+
+-- what each byte is at most: 0 where it is unused
+abbrev pub most : List ℕ
+most =
+    255 ∷ 15 ∷ 255 ∷ 15 ∷ 66 ∷ 253 ∷ 62 ∷ 0
+    ∷ 1 ∷ 255 ∷ 1 ∷ 1 ∷ 255 ∷ 3 ∷ 12 ∷ 15
+    ∷ 1 ∷ 1 ∷ 11 ∷ 15 ∷ 1 ∷ 1 ∷ 255 ∷ 3
+    ∷ 0 ∷ 2 ∷ 0 ∷ 1 ∷ 255 ∷ 15 ∷ 0 ∷ 255
+    ∷ 15 ∷ 0 ∷ 0 ∷ 0 ∷ 0 ∷ 0 ∷ 0 ∷ 0
+    ∷ 0 ∷ 0 ∷ 0 ∷ 0 ∷ 0 ∷ 0 ∷ 0 ∷ 0
+    ∷ 255 ∷ 1 ∷ 255 ∷ 255 ∷ 255 ∷ 15 ∷ 64 ∷ 2
+    ∷ 2 ∷ 1 ∷ 1 ∷ 1 ∷ 0 ∷ 0 ∷ 0 ∷ 2
+    ∷ []
+
+-- what each byte is below
+abbrev pub limits : List ℕ
+limits = map suc most
+
+-- a byte; a word of two, low byte first; a flag
+
+abbrev pub byteAt : List ℕ → ℕ → ℕ
+byteAt b i = getD b i 0
+
+abbrev pub wordAt : List ℕ → ℕ → ℕ
+wordAt b i = getD b i 0 + 256 * getD b (i + 1) 0
+
+abbrev pub setAt : List ℕ → ℕ → Bool
+setAt b i = eqb (getD b i 0) 1
 
 abbrev pub low : ℕ → ℕ
 low x = x % 256
 
 abbrev pub high : ℕ → ℕ
 high x = x / 256 % 256
-
-abbrev pub bit : Bool → ℕ
-bit b = boolByte b
-
-abbrev pub imageWith : Device → FormatCodes → SenderParts → ReceiverParts → FlagCodes → List ℕ
-imageWith d f s r g =
-    low (d .usart .baud .ubrr) ∷ high (d .usart .baud .ubrr)
-    ∷ low (d .usart .baud .left .0) ∷ high (d .usart .baud .left .0)
-    ∷ f .size ∷ f .upm ∷ bit (d .usart .format .usbs) ∷ bit (d .usart .format .u2x)
-    ∷ bit (d .usart .control .rxcie) ∷ bit (d .usart .control .txcie) ∷ bit (d .usart .control .udrie)
-    ∷ bit (d .usart .control .rxen) ∷ bit (d .usart .control .txen) ∷ bit (d .usart .control .txb8)
-    ∷ bit (d .usart .sender .txc) ∷ bit (s .full) ∷ low (s .«data») ∷ high (s .«data»)
-    ∷ bit (s .sending) ∷ low (s .transmission .word) ∷ high (s .transmission .word)
-    ∷ s .transmission .bit ∷ s .transmission .sample .0
-    ∷ bit (r .receiving) ∷ bit (r .last) ∷ r .reception .bit ∷ r .reception .sample .0
-    ∷ bit (r .reception .first) ∷ bit (r .reception .second) ∷ low (r .reception .word) ∷ high (r .reception .word)
-    ∷ r .held ∷ bit (d .usart .receiver .queue .lost)
-    ∷ low (r .oldest .«data») ∷ high (r .oldest .«data») ∷ bit (r .oldest .fe) ∷ bit (r .oldest .upe) ∷ bit (r .oldest .dor)
-    ∷ low (r .second .«data») ∷ high (r .second .«data») ∷ bit (r .second .fe) ∷ bit (r .second .upe) ∷ bit (r .second .dor)
-    ∷ 0 ∷ 0 ∷ 0 ∷ 0 ∷ 0
-    ∷ d .spi .control .spcr ∷ bit (d .spi .control .spi2x) ∷ d .spi .control .ddrb
-    ∷ d .spi .transfer .shift ∷ d .spi .transfer .received ∷ d .spi .transfer .edges ∷ d .spi .transfer .left .0
-    ∷ g .spif ∷ g .wcol ∷ bit (d .spi .pins .mosi) ∷ bit (d .spi .pins .miso) ∷ bit (d .spi .pins .sck)
-    ∷ 0 ∷ 0 ∷ 0 ∷ 0
-    ∷ []
-
-abbrev pub imageOf : Device → List ℕ
-imageOf d =
-    imageWith d (formatCodes (d .usart .format)) (senderParts (d .usart .sender)) (receiverParts (d .usart .receiver))
-    (flagCodes (d .spi .flags))
-
--- what each byte of a record is below: 1 for one that is not in use
-abbrev pub limits : List ℕ
-limits =
-    256 ∷ 16 ∷ 256 ∷ 16 ∷ 8 ∷ 4 ∷ 2 ∷ 2
-    ∷ 2 ∷ 2 ∷ 2 ∷ 2 ∷ 2 ∷ 2
-    ∷ 2 ∷ 2 ∷ 256 ∷ 2 ∷ 2 ∷ 256 ∷ 4 ∷ 13 ∷ 16
-    ∷ 2 ∷ 2 ∷ 12 ∷ 16 ∷ 2 ∷ 2 ∷ 256 ∷ 4
-    ∷ 3 ∷ 2 ∷ 256 ∷ 2 ∷ 2 ∷ 2 ∷ 2 ∷ 256 ∷ 2 ∷ 2 ∷ 2 ∷ 2
-    ∷ 1 ∷ 1 ∷ 1 ∷ 1 ∷ 1
-    ∷ 256 ∷ 2 ∷ 256 ∷ 256 ∷ 256 ∷ 16 ∷ 65 ∷ 3 ∷ 3 ∷ 2 ∷ 2 ∷ 2
-    ∷ 1 ∷ 1 ∷ 1 ∷ 1
-    ∷ []

@@ -1,7 +1,7 @@
+pub mod Layout
 pub mod Codes
 pub mod Parts
-pub mod Layout
+pub mod Image
 pub mod Lift
-pub mod Shown
-pub mod Ranges
+pub mod Accepts
 pub mod Codec

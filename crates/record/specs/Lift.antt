@@ -1,10 +1,8 @@
--- What the bytes of a record say, unchecked, field by field: a word's low byte first, and 1 for a flag that is set. A byte that says
--- nothing of this kind gives a device with another image, so its record is refused (specs/Codec.antt).
-use Prim.Native.Nat.{ℕ, _+_, _*_, _%_}
+-- What the bytes of a record say, unchecked, field by field. A byte that says nothing of its kind is refused (specs/Accepts.antt).
+use Prim.Native.Nat.{ℕ, _+_, _/_, _%_}
 use mathlib.Core.Bool.{Bool}
 use mathlib.Core.List.{List}
-use lib.Dec.{eqb}
-use lib.ListN.{getD}
+use Rattle.choice.specs.Bit.{isSet}
 use Rattle.frame.specs.declared.format.Size.{Size}
 use Rattle.frame.specs.declared.format.Parity.{Parity}
 use Rattle.frame.specs.declared.format.Format.{Format}
@@ -28,71 +26,74 @@ use Rattle.spi.specs.declared.flag.Flags.{Flags}
 use Rattle.spi.specs.declared.unit.Pins.{Pins}
 use Rattle.spi.specs.declared.unit.Spi.{Spi}
 use Rattle.device.specs.declared.unit.Device.{Device}
-use Rattle.record.specs.Codes.{knownSize, flagOf}
+use Rattle.record.specs.Layout.{ubrrByte, leftByte, ucsr0aByte, ucsr0bByte, ucsr0cByte, fullByte, dataByte, sendingByte, sentWordByte, sentBitByte, sentTicksByte}
+use Rattle.record.specs.Layout.{receivingByte, lastByte, bitByte, samplesByte, firstByte, secondByte, wordByte, heldByte, lostByte, oldestByte, nextByte}
+use Rattle.record.specs.Layout.{spcrByte, spi2xByte, ddrbByte, shiftByte, receivedByte, edgesByte, clocksByte, spifByte, wcolByte, mosiByte, misoByte, sckByte}
+use Rattle.record.specs.Layout.{byteAt, wordAt, setAt}
+use Rattle.record.specs.Codes.{sizeCode, knownSize, frameFrom, flagOf}
 use Rattle.record.specs.Parts.{bufferFrom, shifterFrom, samplerFrom, placesFrom}
 
-abbrev pub byteAt : List ℕ → ℕ → ℕ
-byteAt b i = getD b i 0
-
-abbrev pub wordAt : List ℕ → ℕ → ℕ
-wordAt b i = getD b i 0 % 256 + 256 * (getD b (i + 1) 0 % 256)
-
-abbrev pub setAt : List ℕ → ℕ → Bool
-setAt b i = eqb (getD b i 0) 1
-
 abbrev pub baudAt : List ℕ → Baud
-baudAt b = record { ubrr = wordAt b 0; left = record { 0 = wordAt b 2 } }
+baudAt b = record { ubrr = wordAt b ubrrByte; left = record { 0 = wordAt b leftByte } }
 
-abbrev pub formatWith : List ℕ → Size → Parity → Format
-formatWith b z p = record { size = z; parity = p; usbs = setAt b 6; u2x = setAt b 7 }
+-- the format of the registers A, B and C
+
+abbrev pub formatWith : ℕ → ℕ → Size → Parity → Format
+formatWith a c z p = record { size = z; parity = p; usbs = isSet c 8; u2x = isSet a 2 }
+
+abbrev pub formatOf : ℕ → ℕ → ℕ → Format
+formatOf a b c = formatWith a c (knownSize (sizeCode b c)) (parityOf (c / 16 % 4))
 
 abbrev pub formatAt : List ℕ → Format
-formatAt b = formatWith b (knownSize (byteAt b 4)) (parityOf (byteAt b 5))
+formatAt b = formatOf (byteAt b ucsr0aByte) (byteAt b ucsr0bByte) (byteAt b ucsr0cByte)
+
+abbrev pub controlOf : ℕ → Control
+controlOf b =
+    record { rxcie = isSet b 128; txcie = isSet b 64; udrie = isSet b 32; rxen = isSet b 16; txen = isSet b 8; txb8 = isSet b 1 }
 
 abbrev pub controlAt : List ℕ → Control
-controlAt b =
-    record { rxcie = setAt b 8; txcie = setAt b 9; udrie = setAt b 10; rxen = setAt b 11; txen = setAt b 12; txb8 = setAt b 13 }
+controlAt b = controlOf (byteAt b ucsr0bByte)
 
 abbrev pub bufferAt : List ℕ → Buffer
-bufferAt b = bufferFrom (setAt b 15) (wordAt b 16)
+bufferAt b = bufferFrom (setAt b fullByte) (wordAt b dataByte)
 
 abbrev pub transmissionAt : List ℕ → Transmission
-transmissionAt b = record { word = wordAt b 19; bit = byteAt b 21; sample = record { 0 = byteAt b 22 } }
+transmissionAt b = record { word = wordAt b sentWordByte; bit = byteAt b sentBitByte; sample = record { 0 = byteAt b sentTicksByte } }
 
 abbrev pub shifterAt : List ℕ → ShiftRegister
-shifterAt b = shifterFrom (setAt b 18) (transmissionAt b)
+shifterAt b = shifterFrom (setAt b sendingByte) (transmissionAt b)
 
-abbrev pub senderWith : List ℕ → Buffer → ShiftRegister → Sender
-senderWith b u s = record { buffer = u; shifter = s; txc = setAt b 14 }
+abbrev pub senderWith : ℕ → Buffer → ShiftRegister → Sender
+senderWith a u s = record { buffer = u; shifter = s; txc = isSet a 64 }
 
 abbrev pub senderAt : List ℕ → Sender
-senderAt b = senderWith b (bufferAt b) (shifterAt b)
+senderAt b = senderWith (byteAt b ucsr0aByte) (bufferAt b) (shifterAt b)
 
 abbrev pub receptionAt : List ℕ → Reception
 receptionAt b =
-    record { bit = byteAt b 25; sample = record { 0 = byteAt b 26 }; first = setAt b 27; second = setAt b 28; word = wordAt b 29 }
+    record {
+      bit = byteAt b bitByte;
+      sample = record { 0 = byteAt b samplesByte };
+      first = setAt b firstByte;
+      second = setAt b secondByte;
+      word = wordAt b wordByte;
+    }
 
 abbrev pub samplerAt : List ℕ → Sampler
-samplerAt b = samplerFrom (setAt b 23) (setAt b 24) (receptionAt b)
+samplerAt b = samplerFrom (setAt b receivingByte) (setAt b lastByte) (receptionAt b)
 
--- a held frame whose bytes begin at i
+-- the held frame whose bytes begin at i
 abbrev pub frameAt : List ℕ → ℕ → Frame
-frameAt b i = record { «data» = wordAt b i; fe = setAt b (i + 2); upe = setAt b (i + 3); dor = setAt b (i + 4) }
-
-abbrev pub oldestAt : List ℕ → Frame
-oldestAt b = frameAt b 33
-
-abbrev pub secondAt : List ℕ → Frame
-secondAt b = frameAt b 38
+frameAt b i = frameFrom (byteAt b i) (byteAt b (i + 1))
 
 abbrev pub placesAt : List ℕ → Places
-placesAt b = placesFrom (byteAt b 31) (oldestAt b) (secondAt b)
+placesAt b = placesFrom (byteAt b heldByte) (frameAt b oldestByte) (frameAt b nextByte)
 
-abbrev pub queueWith : List ℕ → Places → Queue
-queueWith b p = record { places = p; lost = setAt b 32 }
+abbrev pub queueWith : Bool → Places → Queue
+queueWith lost p = record { places = p; lost = lost }
 
 abbrev pub queueAt : List ℕ → Queue
-queueAt b = queueWith b (placesAt b)
+queueAt b = queueWith (setAt b lostByte) (placesAt b)
 
 abbrev pub receiverAt : List ℕ → Receiver
 receiverAt b = record { sampler = samplerAt b; queue = queueAt b }
@@ -101,16 +102,17 @@ abbrev pub usartAt : List ℕ → Usart
 usartAt b = record { baud = baudAt b; format = formatAt b; control = controlAt b; sender = senderAt b; receiver = receiverAt b }
 
 abbrev pub spiControlAt : List ℕ → SpiControl
-spiControlAt b = record { spcr = byteAt b 48; spi2x = setAt b 49; ddrb = byteAt b 50 }
+spiControlAt b = record { spcr = byteAt b spcrByte; spi2x = setAt b spi2xByte; ddrb = byteAt b ddrbByte }
 
 abbrev pub transferAt : List ℕ → Transfer
-transferAt b = record { shift = byteAt b 51; received = byteAt b 52; edges = byteAt b 53; left = record { 0 = byteAt b 54 } }
+transferAt b =
+    record { shift = byteAt b shiftByte; received = byteAt b receivedByte; edges = byteAt b edgesByte; left = record { 0 = byteAt b clocksByte } }
 
 abbrev pub flagsAt : List ℕ → Flags
-flagsAt b = record { spif = flagOf (byteAt b 55); wcol = flagOf (byteAt b 56) }
+flagsAt b = record { spif = flagOf (byteAt b spifByte); wcol = flagOf (byteAt b wcolByte) }
 
 abbrev pub pinsAt : List ℕ → Pins
-pinsAt b = record { mosi = setAt b 57; miso = setAt b 58; sck = setAt b 59 }
+pinsAt b = record { mosi = setAt b mosiByte; miso = setAt b misoByte; sck = setAt b sckByte }
 
 abbrev pub spiAt : List ℕ → Spi
 spiAt b = record { control = spiControlAt b; transfer = transferAt b; flags = flagsAt b; pins = pinsAt b }

@@ -1,14 +1,17 @@
 use crate::encode::image;
-use crate::shown::shown;
+use crate::layout;
+use crate::limits::within;
 use crate::spi_lift::spi_at;
-use crate::spi_ranges::spi_fits;
+use crate::spi_tests::spi_fits;
 use crate::usart_lift::usart_at;
-use crate::usart_ranges::usart_fits;
+use crate::usart_tests::settings_fit;
+use crate::usart_tests::usart_fits;
 use device::Device;
 ghost use mathlib.Core.Path.{_≡_};
 ghost use lib.ListN.{length};
+ghost use Rattle.record.specs.Layout.{recordLength};
 ghost use Rattle.record.specs.Lift.{deviceAt};
-ghost use Rattle.record.specs.Ranges.{inRange};
+ghost use Rattle.record.specs.Accepts.{accepts, isRecord};
 ghost use Rattle.record.specs.Codec.{decodeOf, storedOver};
 
 pub enum Decoded {
@@ -17,66 +20,67 @@ pub enum Decoded {
     Refused,
 }
 
-// The bytes of a record that is 64 long, as an array.
-fn taken(s: &[u8]) -> [u8; 64]
-    requires { ⌜ length (now s) ≡ 64 ⌝ }
-    ensures { λ r. ⌜ r ≡ now (s .entry) ⌝ }
-{
-    let mut b = [0u8; 64];
-    bytes::copy(s, &mut b);
-    b
-}
-
 // Writes an array over a record.
-fn put(b: [u8; 64], s: &mut [u8])
-    requires { ⌜ length (now s) ≡ 64 ⌝ }
+fn put(b: [u8; layout::LENGTH], s: &mut [u8])
+    requires { ⌜ length (now s) ≡ recordLength ⌝ }
     ensures { λ _. ⌜ now (s .exit) ≡ b ⌝ }
 {
     bytes::copy(&b, s);
 }
 
-fn device_at(b: [u8; 64]) -> Device
-    ensures { λ r. ⌜ r ≡ deviceAt b ⌝ }
+fn fits(s: &[u8]) -> bool
+    requires { ⌜ length (now s) ≡ recordLength ⌝ }
+    ensures { λ r. ⌜ r ≡ accepts (now (s .entry)) ⌝ }
+{
+    if !within(s) {
+        return false;
+    }
+    if s[layout::LAYOUT] != layout::NUMBER {
+        return false;
+    }
+    if !settings_fit(s) {
+        return false;
+    }
+    if !usart_fits(s) {
+        return false;
+    }
+    spi_fits(spi_at(s))
+}
+
+pub(crate) fn is_record(s: &[u8]) -> bool
+    ensures { λ r. ⌜ r ≡ isRecord (now (s .entry)) ⌝ }
+{
+    if s.len() == layout::LENGTH {
+        return fits(s);
+    }
+    false
+}
+
+pub(crate) fn device_at(s: &[u8]) -> Device
+    requires { ⌜ length (now s) ≡ recordLength ⌝ }
+    ensures { λ r. ⌜ r ≡ deviceAt (now (s .entry)) ⌝ }
 {
     Device {
-        usart: usart_at(b),
-        spi: spi_at(b),
+        usart: usart_at(s),
+        spi: spi_at(s),
     }
 }
 
-fn in_range(d: Device) -> bool
-    ensures { λ r. ⌜ r ≡ inRange d ⌝ }
-{
-    let u = d.usart;
-    let s = d.spi;
-    usart_fits(u) & spi_fits(s)
-}
-
-// The device of a record. What no device would show is refused first: a flag of 2, an unknown code, a byte that is not in use and
-// not 0.
+// The device of a record.
 pub fn decode(s: &[u8]) -> Decoded
     ensures { λ r. ⌜ r ≡ decodeOf (now (s .entry)) ⌝ }
 {
-    if s.len() != 64 {
-        return Decoded::Refused;
+    if is_record(s) {
+        return Decoded::Accepted(device_at(s));
     }
-    let b = taken(s);
-    if !shown(b) {
-        return Decoded::Refused;
-    }
-    let d = device_at(b);
-    if in_range(d) {
-        Decoded::Accepted(d)
-    } else {
-        Decoded::Refused
-    }
+    Decoded::Refused
 }
 
-// Writes a device's record; a slice that is not 64 long is left as it is.
+// Writes a device's record; a slice that is not as long as a record is left as it is.
 pub fn store(d: Device, s: &mut [u8])
     ensures { λ _. ⌜ now (s .exit) ≡ storedOver d (now (s .entry)) ⌝ }
 {
-    if s.len() == 64 {
+    if s.len() == layout::LENGTH {
         put(image(d), s);
     }
 }

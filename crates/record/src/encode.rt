@@ -1,18 +1,29 @@
 use crate::codes::flag_code;
+use crate::codes::marks;
+use crate::layout;
 use crate::parts::ReceiverParts;
 use crate::parts::SenderParts;
 use crate::parts::receiver_parts;
 use crate::parts::sender_parts;
+use choice::digit;
 use device::Device;
 use frame::Format;
 use spi::Flags;
+use usart::Control;
 ghost use mathlib.Core.Path.{_≡_};
-ghost use Rattle.record.specs.Layout.{formatCodes, flagCodes, imageWith, imageOf};
+ghost use Rattle.record.specs.Image.{ucsr0a, ucsr0b, ucsr0c, registersOf, marksIn, flagCodes, imageWith, imageOf};
 
-// The size code UCSZ2:0, and UPM.
-pub struct FormatCodes {
-    pub size: u8,
-    pub upm: u8,
+// UCSR0A, B and C.
+pub struct Registers {
+    pub a: u8,
+    pub b: u8,
+    pub c: u8,
+}
+
+// The marks of the frames held.
+pub struct Marks {
+    pub oldest: u8,
+    pub second: u8,
 }
 
 pub struct FlagCodes {
@@ -20,14 +31,51 @@ pub struct FlagCodes {
     pub wcol: u8,
 }
 
-fn format_codes(f: Format) -> FormatCodes
-    ensures { λ r. ⌜ r ≡ formatCodes f ⌝ }
+fn ucsr0a(f: Format, txc: bool) -> u8
+    ensures { λ r. ⌜ r ≡ ucsr0a f txc ⌝ }
+{
+    digit(txc) * 64 + digit(f.u2x) * 2
+}
+
+fn ucsr0b(f: Format, c: Control) -> u8
+    ensures { λ r. ⌜ r ≡ ucsr0b f c ⌝ }
+{
+    let z = f.size;
+    digit(c.rxcie) * 128
+        + digit(c.txcie) * 64
+        + digit(c.udrie) * 32
+        + digit(c.rxen) * 16
+        + digit(c.txen) * 8
+        + usart::size_code(z) / 4 * 4
+        + digit(c.txb8)
+}
+
+fn ucsr0c(f: Format) -> u8
+    ensures { λ r. ⌜ r ≡ ucsr0c f ⌝ }
 {
     let z = f.size;
     let p = f.parity;
-    FormatCodes {
-        size: usart::size_code(z),
-        upm: usart::upm(p),
+    usart::upm(p) * 16 + digit(f.usbs) * 8 + usart::size_code(z) % 4 * 2
+}
+
+fn register_images(f: Format, c: Control, txc: bool) -> Registers
+    ensures { λ r. ⌜ r ≡ registersOf f c txc ⌝ }
+{
+    Registers {
+        a: ucsr0a(f, txc),
+        b: ucsr0b(f, c),
+        c: ucsr0c(f),
+    }
+}
+
+fn marks_in(r: ReceiverParts) -> Marks
+    ensures { λ m. ⌜ m ≡ marksIn r ⌝ }
+{
+    let a = r.oldest;
+    let b = r.second;
+    Marks {
+        oldest: marks(a),
+        second: marks(b),
     }
 }
 
@@ -43,25 +91,18 @@ fn flag_codes(f: Flags) -> FlagCodes
 }
 
 // The layout of docs/RECORD.md, byte for byte.
-fn image_with(d: Device, f: FormatCodes, s: SenderParts, r: ReceiverParts, g: FlagCodes) -> [u8; 64]
-    ensures { λ b. ⌜ b ≡ imageWith d f s r g ⌝ }
+fn image_with(d: Device, k: Registers, s: SenderParts, r: ReceiverParts, m: Marks, g: FlagCodes) -> [u8; layout::LENGTH]
+    ensures { λ b. ⌜ b ≡ imageWith d k s r m g ⌝ }
 {
     [
         (d.usart.baud.ubrr % 256) as u8,
         (d.usart.baud.ubrr / 256 % 256) as u8,
         (d.usart.baud.left.0 % 256) as u8,
         (d.usart.baud.left.0 / 256 % 256) as u8,
-        f.size,
-        f.upm,
-        d.usart.format.usbs as u8,
-        d.usart.format.u2x as u8,
-        d.usart.control.rxcie as u8,
-        d.usart.control.txcie as u8,
-        d.usart.control.udrie as u8,
-        d.usart.control.rxen as u8,
-        d.usart.control.txen as u8,
-        d.usart.control.txb8 as u8,
-        d.usart.sender.txc as u8,
+        k.a,
+        k.b,
+        k.c,
+        0,
         s.full as u8,
         (s.data % 256) as u8,
         (s.data / 256 % 256) as u8,
@@ -78,18 +119,25 @@ fn image_with(d: Device, f: FormatCodes, s: SenderParts, r: ReceiverParts, g: Fl
         r.reception.second as u8,
         (r.reception.word % 256) as u8,
         (r.reception.word / 256 % 256) as u8,
+        0,
         r.held,
+        0,
         d.usart.receiver.queue.lost as u8,
         (r.oldest.data % 256) as u8,
-        (r.oldest.data / 256 % 256) as u8,
-        r.oldest.fe as u8,
-        r.oldest.upe as u8,
-        r.oldest.dor as u8,
+        m.oldest,
+        0,
         (r.second.data % 256) as u8,
-        (r.second.data / 256 % 256) as u8,
-        r.second.fe as u8,
-        r.second.upe as u8,
-        r.second.dor as u8,
+        m.second,
+        0,
+        0,
+        0,
+        0,
+        0,
+        0,
+        0,
+        0,
+        0,
+        0,
         0,
         0,
         0,
@@ -110,24 +158,21 @@ fn image_with(d: Device, f: FormatCodes, s: SenderParts, r: ReceiverParts, g: Fl
         0,
         0,
         0,
-        0,
+        layout::NUMBER,
     ]
 }
 
-pub fn image(d: Device) -> [u8; 64]
+pub fn image(d: Device) -> [u8; layout::LENGTH]
     ensures { λ b. ⌜ b ≡ imageOf d ⌝ }
 {
     let u = d.usart;
     let p = d.spi;
     let f = u.format;
+    let c = u.control;
     let s = u.sender;
     let r = u.receiver;
     let g = p.flags;
-    image_with(
-        d,
-        format_codes(f),
-        sender_parts(s),
-        receiver_parts(r),
-        flag_codes(g),
-    )
+    let k = register_images(f, c, s.txc);
+    let o = receiver_parts(r);
+    image_with(d, k, sender_parts(s), o, marks_in(o), flag_codes(g))
 }

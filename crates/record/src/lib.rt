@@ -2,13 +2,15 @@
 mod codec;
 mod codes;
 mod encode;
+mod layout;
+mod limits;
 mod parts;
-mod shown;
 mod spi_lift;
-mod spi_ranges;
+mod spi_tests;
 mod usart_lift;
-mod usart_ranges;
+mod usart_tests;
 
 pub use codec::Decoded;
 pub use codec::decode;
 pub use codec::store;
+pub use layout::LENGTH;

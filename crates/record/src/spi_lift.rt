@@ -1,4 +1,5 @@
 use crate::codes::flag_of;
+use crate::layout;
 use spi::Clocks;
 use spi::Control;
 use spi::Flags;
@@ -6,55 +7,62 @@ use spi::Pins;
 use spi::Spi;
 use spi::Transfer;
 ghost use mathlib.Core.Path.{_≡_};
+ghost use lib.ListN.{length};
+ghost use Rattle.record.specs.Layout.{recordLength};
 ghost use Rattle.record.specs.Lift.{spiControlAt, transferAt, flagsAt, pinsAt, spiAt};
 
-fn control_at(b: [u8; 64]) -> Control
-    ensures { λ r. ⌜ r ≡ spiControlAt b ⌝ }
+fn control_at(s: &[u8]) -> Control
+    requires { ⌜ length (now s) ≡ recordLength ⌝ }
+    ensures { λ r. ⌜ r ≡ spiControlAt (now (s .entry)) ⌝ }
 {
     Control {
-        spcr: b[48],
-        spi2x: b[49] == 1,
-        ddrb: b[50],
+        spcr: s[layout::SPCR],
+        spi2x: s[layout::SPI2X] == 1,
+        ddrb: s[layout::DDRB],
     }
 }
 
-fn transfer_at(b: [u8; 64]) -> Transfer
-    ensures { λ r. ⌜ r ≡ transferAt b ⌝ }
+fn transfer_at(s: &[u8]) -> Transfer
+    requires { ⌜ length (now s) ≡ recordLength ⌝ }
+    ensures { λ r. ⌜ r ≡ transferAt (now (s .entry)) ⌝ }
 {
     Transfer {
-        shift: b[51],
-        received: b[52],
-        edges: b[53],
-        left: Clocks(b[54]),
+        shift: s[layout::SHIFT],
+        received: s[layout::RECEIVED],
+        edges: s[layout::EDGES],
+        left: Clocks(s[layout::CLOCKS]),
     }
 }
 
-fn flags_at(b: [u8; 64]) -> Flags
-    ensures { λ r. ⌜ r ≡ flagsAt b ⌝ }
+fn flags_at(s: &[u8]) -> Flags
+    requires { ⌜ length (now s) ≡ recordLength ⌝ }
+    ensures { λ r. ⌜ r ≡ flagsAt (now (s .entry)) ⌝ }
 {
     Flags {
-        spif: flag_of(b[55]),
-        wcol: flag_of(b[56]),
+        spif: flag_of(s[layout::SPIF]),
+        wcol: flag_of(s[layout::WCOL]),
     }
 }
 
-fn pins_at(b: [u8; 64]) -> Pins
-    ensures { λ r. ⌜ r ≡ pinsAt b ⌝ }
+fn pins_at(s: &[u8]) -> Pins
+    requires { ⌜ length (now s) ≡ recordLength ⌝ }
+    ensures { λ r. ⌜ r ≡ pinsAt (now (s .entry)) ⌝ }
 {
     Pins {
-        mosi: b[57] == 1,
-        miso: b[58] == 1,
-        sck: b[59] == 1,
+        mosi: s[layout::MOSI] == 1,
+        miso: s[layout::MISO] == 1,
+        sck: s[layout::SCK] == 1,
     }
 }
 
-pub fn spi_at(b: [u8; 64]) -> Spi
-    ensures { λ r. ⌜ r ≡ spiAt b ⌝ }
+pub fn spi_at(s: &[u8]) -> Spi
+    requires { ⌜ length (now s) ≡ recordLength ⌝ }
+    ensures { λ r. ⌜ r ≡ spiAt (now (s .entry)) ⌝ }
 {
     Spi {
-        control: control_at(b),
-        transfer: transfer_at(b),
-        flags: flags_at(b),
-        pins: pins_at(b),
+        control: control_at(s),
+        transfer: transfer_at(s),
+        flags: flags_at(s),
+        pins: pins_at(s),
     }
 }

@@ -1,4 +1,8 @@
+use crate::codes::frame_of;
 use crate::codes::known_size;
+use crate::codes::size_code;
+use crate::codes::word;
+use crate::layout;
 use crate::parts::buffer_of;
 use crate::parts::places_of;
 use crate::parts::sampler_of;
@@ -10,7 +14,6 @@ use usart::Baud;
 use usart::Buffer;
 use usart::Clocks;
 use usart::Control;
-use usart::Frame;
 use usart::Places;
 use usart::Queue;
 use usart::Receiver;
@@ -22,163 +25,170 @@ use usart::ShiftRegister;
 use usart::Transmission;
 use usart::Usart;
 ghost use mathlib.Core.Path.{_≡_};
-ghost use Rattle.record.specs.Lift.{baudAt, formatWith, formatAt, controlAt, bufferAt, transmissionAt, shifterAt, senderWith, senderAt, receptionAt, samplerAt, oldestAt, secondAt, placesAt, queueWith, queueAt, receiverAt, usartAt};
+ghost use lib.ListN.{length};
+ghost use Rattle.record.specs.Layout.{recordLength};
+ghost use Rattle.record.specs.Lift.{baudAt, formatWith, formatOf, formatAt, controlOf, controlAt, bufferAt, transmissionAt, shifterAt, senderWith, senderAt, receptionAt, samplerAt, placesAt, queueWith, queueAt, receiverAt, usartAt};
 
-fn baud_at(b: [u8; 64]) -> Baud
-    ensures { λ r. ⌜ r ≡ baudAt b ⌝ }
+pub fn baud_at(s: &[u8]) -> Baud
+    requires { ⌜ length (now s) ≡ recordLength ⌝ }
+    ensures { λ r. ⌜ r ≡ baudAt (now (s .entry)) ⌝ }
 {
+    let ubrr = word(s[layout::UBRR], s[layout::UBRR + 1]);
+    let left = word(s[layout::LEFT], s[layout::LEFT + 1]);
     Baud {
-        ubrr: b[0] as u16 % 256 + 256 * (b[1] as u16 % 256),
-        left: Clocks(b[2] as u16 % 256 + 256 * (b[3] as u16 % 256)),
+        ubrr,
+        left: Clocks(left),
     }
 }
 
-fn format_with(b: [u8; 64], size: Size, parity: Parity) -> Format
-    ensures { λ r. ⌜ r ≡ formatWith b size parity ⌝ }
+fn format_with(a: u8, c: u8, size: Size, parity: Parity) -> Format
+    ensures { λ r. ⌜ r ≡ formatWith a c size parity ⌝ }
 {
     Format {
         size,
         parity,
-        usbs: b[6] == 1,
-        u2x: b[7] == 1,
+        usbs: c / 8 % 2 == 1,
+        u2x: a / 2 % 2 == 1,
     }
 }
 
-fn format_at(b: [u8; 64]) -> Format
-    ensures { λ r. ⌜ r ≡ formatAt b ⌝ }
+// The format of the registers A, B and C.
+fn format_of(a: u8, b: u8, c: u8) -> Format
+    ensures { λ r. ⌜ r ≡ formatOf a b c ⌝ }
 {
-    format_with(b, known_size(b[4]), usart::parity_of(b[5]))
+    format_with(a, c, known_size(size_code(b, c)), usart::parity_of(c / 16 % 4))
 }
 
-fn control_at(b: [u8; 64]) -> Control
-    ensures { λ r. ⌜ r ≡ controlAt b ⌝ }
+pub fn format_at(s: &[u8]) -> Format
+    requires { ⌜ length (now s) ≡ recordLength ⌝ }
+    ensures { λ r. ⌜ r ≡ formatAt (now (s .entry)) ⌝ }
+{
+    format_of(s[layout::UCSR0A], s[layout::UCSR0B], s[layout::UCSR0C])
+}
+
+fn control_of(b: u8) -> Control
+    ensures { λ r. ⌜ r ≡ controlOf b ⌝ }
 {
     Control {
-        rxcie: b[8] == 1,
-        txcie: b[9] == 1,
-        udrie: b[10] == 1,
-        rxen: b[11] == 1,
-        txen: b[12] == 1,
-        txb8: b[13] == 1,
+        rxcie: b / 128 % 2 == 1,
+        txcie: b / 64 % 2 == 1,
+        udrie: b / 32 % 2 == 1,
+        rxen: b / 16 % 2 == 1,
+        txen: b / 8 % 2 == 1,
+        txb8: b / 1 % 2 == 1,
     }
 }
 
-fn buffer_at(b: [u8; 64]) -> Buffer
-    ensures { λ r. ⌜ r ≡ bufferAt b ⌝ }
+pub fn control_at(s: &[u8]) -> Control
+    requires { ⌜ length (now s) ≡ recordLength ⌝ }
+    ensures { λ r. ⌜ r ≡ controlAt (now (s .entry)) ⌝ }
 {
-    buffer_of(b[15] == 1, b[16] as u16 % 256 + 256 * (b[17] as u16 % 256))
+    control_of(s[layout::UCSR0B])
 }
 
-fn transmission_at(b: [u8; 64]) -> Transmission
-    ensures { λ r. ⌜ r ≡ transmissionAt b ⌝ }
+fn buffer_at(s: &[u8]) -> Buffer
+    requires { ⌜ length (now s) ≡ recordLength ⌝ }
+    ensures { λ r. ⌜ r ≡ bufferAt (now (s .entry)) ⌝ }
+{
+    buffer_of(s[layout::FULL] == 1, word(s[layout::DATA], s[layout::DATA + 1]))
+}
+
+pub fn transmission_at(s: &[u8]) -> Transmission
+    requires { ⌜ length (now s) ≡ recordLength ⌝ }
+    ensures { λ r. ⌜ r ≡ transmissionAt (now (s .entry)) ⌝ }
 {
     Transmission {
-        word: b[19] as u16 % 256 + 256 * (b[20] as u16 % 256),
-        bit: b[21],
-        sample: Sample(b[22]),
+        word: word(s[layout::SENT_WORD], s[layout::SENT_WORD + 1]),
+        bit: s[layout::SENT_BIT],
+        sample: Sample(s[layout::SENT_TICKS]),
     }
 }
 
-fn shifter_at(b: [u8; 64]) -> ShiftRegister
-    ensures { λ r. ⌜ r ≡ shifterAt b ⌝ }
+fn shifter_at(s: &[u8]) -> ShiftRegister
+    requires { ⌜ length (now s) ≡ recordLength ⌝ }
+    ensures { λ r. ⌜ r ≡ shifterAt (now (s .entry)) ⌝ }
 {
-    shifter_of(b[18] == 1, transmission_at(b))
+    shifter_of(s[layout::SENDING] == 1, transmission_at(s))
 }
 
-fn sender_with(b: [u8; 64], buffer: Buffer, shifter: ShiftRegister) -> Sender
-    ensures { λ r. ⌜ r ≡ senderWith b buffer shifter ⌝ }
+fn sender_with(a: u8, buffer: Buffer, shifter: ShiftRegister) -> Sender
+    ensures { λ r. ⌜ r ≡ senderWith a buffer shifter ⌝ }
 {
     Sender {
         buffer,
         shifter,
-        txc: b[14] == 1,
+        txc: a / 64 % 2 == 1,
     }
 }
 
-fn sender_at(b: [u8; 64]) -> Sender
-    ensures { λ r. ⌜ r ≡ senderAt b ⌝ }
+pub fn sender_at(s: &[u8]) -> Sender
+    requires { ⌜ length (now s) ≡ recordLength ⌝ }
+    ensures { λ r. ⌜ r ≡ senderAt (now (s .entry)) ⌝ }
 {
-    sender_with(b, buffer_at(b), shifter_at(b))
+    sender_with(s[layout::UCSR0A], buffer_at(s), shifter_at(s))
 }
 
-fn reception_at(b: [u8; 64]) -> Reception
-    ensures { λ r. ⌜ r ≡ receptionAt b ⌝ }
+pub fn reception_at(s: &[u8]) -> Reception
+    requires { ⌜ length (now s) ≡ recordLength ⌝ }
+    ensures { λ r. ⌜ r ≡ receptionAt (now (s .entry)) ⌝ }
 {
     Reception {
-        bit: b[25],
-        sample: Sample(b[26]),
-        first: b[27] == 1,
-        second: b[28] == 1,
-        word: b[29] as u16 % 256 + 256 * (b[30] as u16 % 256),
+        bit: s[layout::BIT],
+        sample: Sample(s[layout::SAMPLES]),
+        first: s[layout::FIRST] == 1,
+        second: s[layout::SECOND] == 1,
+        word: word(s[layout::WORD], s[layout::WORD + 1]),
     }
 }
 
-fn sampler_at(b: [u8; 64]) -> Sampler
-    ensures { λ r. ⌜ r ≡ samplerAt b ⌝ }
+fn sampler_at(s: &[u8]) -> Sampler
+    requires { ⌜ length (now s) ≡ recordLength ⌝ }
+    ensures { λ r. ⌜ r ≡ samplerAt (now (s .entry)) ⌝ }
 {
-    sampler_of(b[23] == 1, b[24] == 1, reception_at(b))
+    sampler_of(s[layout::RECEIVING] == 1, s[layout::LAST] == 1, reception_at(s))
 }
 
-fn oldest_at(b: [u8; 64]) -> Frame
-    ensures { λ r. ⌜ r ≡ oldestAt b ⌝ }
+fn places_at(s: &[u8]) -> Places
+    requires { ⌜ length (now s) ≡ recordLength ⌝ }
+    ensures { λ r. ⌜ r ≡ placesAt (now (s .entry)) ⌝ }
 {
-    Frame {
-        data: b[33] as u16 % 256 + 256 * (b[34] as u16 % 256),
-        fe: b[35] == 1,
-        upe: b[36] == 1,
-        dor: b[37] == 1,
-    }
+    let a = frame_of(s[layout::OLDEST], s[layout::OLDEST + 1]);
+    let b = frame_of(s[layout::NEXT], s[layout::NEXT + 1]);
+    places_of(s[layout::HELD], a, b)
 }
 
-fn second_at(b: [u8; 64]) -> Frame
-    ensures { λ r. ⌜ r ≡ secondAt b ⌝ }
+fn queue_with(lost: bool, places: Places) -> Queue
+    ensures { λ r. ⌜ r ≡ queueWith lost places ⌝ }
 {
-    Frame {
-        data: b[38] as u16 % 256 + 256 * (b[39] as u16 % 256),
-        fe: b[40] == 1,
-        upe: b[41] == 1,
-        dor: b[42] == 1,
-    }
+    Queue { places, lost }
 }
 
-fn places_at(b: [u8; 64]) -> Places
-    ensures { λ r. ⌜ r ≡ placesAt b ⌝ }
+fn queue_at(s: &[u8]) -> Queue
+    requires { ⌜ length (now s) ≡ recordLength ⌝ }
+    ensures { λ r. ⌜ r ≡ queueAt (now (s .entry)) ⌝ }
 {
-    places_of(b[31], oldest_at(b), second_at(b))
+    queue_with(s[layout::LOST] == 1, places_at(s))
 }
 
-fn queue_with(b: [u8; 64], places: Places) -> Queue
-    ensures { λ r. ⌜ r ≡ queueWith b places ⌝ }
-{
-    Queue {
-        places,
-        lost: b[32] == 1,
-    }
-}
-
-fn queue_at(b: [u8; 64]) -> Queue
-    ensures { λ r. ⌜ r ≡ queueAt b ⌝ }
-{
-    queue_with(b, places_at(b))
-}
-
-fn receiver_at(b: [u8; 64]) -> Receiver
-    ensures { λ r. ⌜ r ≡ receiverAt b ⌝ }
+fn receiver_at(s: &[u8]) -> Receiver
+    requires { ⌜ length (now s) ≡ recordLength ⌝ }
+    ensures { λ r. ⌜ r ≡ receiverAt (now (s .entry)) ⌝ }
 {
     Receiver {
-        sampler: sampler_at(b),
-        queue: queue_at(b),
+        sampler: sampler_at(s),
+        queue: queue_at(s),
     }
 }
 
-pub fn usart_at(b: [u8; 64]) -> Usart
-    ensures { λ r. ⌜ r ≡ usartAt b ⌝ }
+pub fn usart_at(s: &[u8]) -> Usart
+    requires { ⌜ length (now s) ≡ recordLength ⌝ }
+    ensures { λ r. ⌜ r ≡ usartAt (now (s .entry)) ⌝ }
 {
     Usart {
-        baud: baud_at(b),
-        format: format_at(b),
-        control: control_at(b),
-        sender: sender_at(b),
-        receiver: receiver_at(b),
+        baud: baud_at(s),
+        format: format_at(s),
+        control: control_at(s),
+        sender: sender_at(s),
+        receiver: receiver_at(s),
     }
 }

@@ -1,0 +1,9 @@
+use borrow.Author.Needs.{needs}
+use Rattle.record.proofs.encode.marks_in.Statement.{statement}
+use Rattle.record.proofs.encode.marks_in.Tie as tie
+
+returns : tie.Need-returns
+returns c = rw (c .before .marks .ensures, c .marks2 .ensures)
+
+pub marks-in-spec : {M : Type 1} → statement M
+marks-in-spec = tie.close (tie.spec (λ c κs. search needs) (λ c κs. search needs) returns)
