@@ -77,6 +77,5 @@ unfolding countedUsart countedOf serialOutput isDriven
 serial-output u = split (ticks (u .baud)) (λ e. rw e (rw e at (output-counted u 1))) (λ e. rw e)
 
 -- .. so the output stays
-pub counted-output : (d : Device) (level : ℕ) → isCounting d level ≡ true
-    → outputOf (countedDevice d) level ≡ outputOf d level
-counted-output d level h = ap (λ (n : ℕ). n + spiOutput (d .spi) (levelsIn level .ss)) (serial-output (d .usart))
+pub counted-output : (d : Device) (level : ℕ) → outputOf (countedDevice d) level ≡ outputOf d level
+counted-output d level = ap (λ (n : ℕ). n + spiOutput (d .spi) (levelsIn level .ss)) (serial-output (d .usart))

@@ -13,3 +13,4 @@ pub use outcome::Reading;
 pub use outcome::Written;
 pub use unit::Clocked;
 pub use unit::Device;
+pub use unit::pin_levels;

@@ -21,7 +21,7 @@ pub struct Clocked {
 }
 
 // MISO, MOSI, SCK and SS in bits 1 to 4 of a level byte.
-pub(crate) fn pin_levels(level: u8) -> Levels
+pub fn pin_levels(level: u8) -> Levels
     ensures { λ r. ⌜ r ≡ levelsIn level ⌝ }
 {
     Levels {

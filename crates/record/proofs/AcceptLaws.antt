@@ -191,6 +191,7 @@ module _ (d : Device) (v : Valid d) where
     where
       le-255 : (x : ℕ) → x < 256 → x ≤ 255
       le-255 x h = omega arith
+
       le-15 : (x : ℕ) → x < 16 → x ≤ 15
       le-15 x h = omega arith
 
@@ -220,22 +221,26 @@ module _ (d : Device) (v : Valid d) where
           ∙ ap (counterFits _ _) (baud-law d v)
           ∙ counter-fits (not (isResting (d .usart .sender .shifter))) (isReceiving (d .usart .receiver .sampler)) (d .usart .baud)
           (λ e. v .usart .counter (sym (in-shift (d .usart .sender .shifter) (isReceiving (d .usart .receiver .sampler))) ∙ e))
+
       buffer-image : bufferFits (formatAt (imageOf d)) (setAt (imageOf d) fullByte) (wordAt (imageOf d) dataByte) ≡ true
       buffer-image =
           ap₂ (λ (g : Format) (x : Bool). bufferFits g x (wordAt (imageOf d) dataByte)) (format-law d v) (flag-bit _)
           ∙ ap (bufferFits _ _) (data-law d v)
           ∙ buffer-fits (d .usart .format) (d .usart .sender .buffer) (v .usart .sender .buffer)
+
       shifter-image : shifterFits (formatAt (imageOf d)) (setAt (imageOf d) sendingByte) (transmissionAt (imageOf d)) ≡ true
       shifter-image =
           ap₂ (λ (g : Format) (x : Bool). shifterFits g x (transmissionAt (imageOf d))) (format-law d v) (flag-bit _)
           ∙ ap (shifterFits _ _) (transmission-law d v)
           ∙ shifter-fits (d .usart .format) (d .usart .sender .shifter) (v .usart .sender .shifter)
+
       sampler-image : samplerFits (formatAt (imageOf d)) (setAt (imageOf d) receivingByte) (setAt (imageOf d) lastByte) (receptionAt (imageOf d)) ≡ true
       sampler-image =
           ap₂ (λ (x y : Bool). samplerFits (formatAt (imageOf d)) x y (receptionAt (imageOf d))) (flag-bit _) (flag-bit _)
           ∙ ap₂ (λ (g : Format) (r : Reception). samplerFits g (isReceiving (d .usart .receiver .sampler)) (rememberedIn (d .usart .receiver .sampler)) r)
           (format-law d v) (reception-law d v)
           ∙ sampler-fits (d .usart .format) (d .usart .receiver .sampler) (v .usart .receiver .sampler)
+
       enabled-image : enabledFits (controlAt (imageOf d) .rxen) (setAt (imageOf d) receivingByte) (setAt (imageOf d) lastByte) (byteAt (imageOf d) heldByte) (setAt (imageOf d) lostByte) ≡ true
       enabled-image =
           ap₂ (λ (x y : Bool). enabledFits (controlAt (imageOf d) .rxen) x y (heldCount (d .usart .receiver .queue .places)) (setAt (imageOf d) lostByte)) (flag-bit _) (flag-bit _)

@@ -53,11 +53,11 @@ listed-again (x ∷ xs) = ap (λ (l : List ℕ). x ∷ l) (listed-again xs)
 
 -- two lists the same, number for number
 infixr 20 _▹_
-data Same : List ℕ → List ℕ → Type 0 where
+pub data Same : List ℕ → List ℕ → Type 0 where
   done : Same [] []
   _▹_ : {x y : ℕ} {xs ys : List ℕ} → x ≡ y → Same xs ys → Same (x ∷ xs) (y ∷ ys)
 
-same-lists : (xs ys : List ℕ) → Same xs ys → xs ≡ ys
+pub same-lists : (xs ys : List ℕ) → Same xs ys → xs ≡ ys
 same-lists [] [] done = refl
 same-lists (x ∷ xs) (y ∷ ys) (e ▹ s) = ap₂ (_∷_) e (same-lists xs ys s)
 

@@ -8,4 +8,6 @@ pub mod QueueLaws
 pub mod SpiTestLaws
 pub mod AcceptLaws
 pub mod BytesLaws
+pub mod InPlaceLaws
+pub mod ReportLaws
 pub mod Round

@@ -5,3 +5,5 @@ pub mod Image
 pub mod Lift
 pub mod Accepts
 pub mod Codec
+pub mod InPlace
+pub mod Report

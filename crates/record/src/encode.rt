@@ -91,7 +91,14 @@ fn flag_codes(f: Flags) -> FlagCodes
 }
 
 // The layout of docs/RECORD.md, byte for byte.
-fn image_with(d: Device, k: Registers, s: SenderParts, r: ReceiverParts, m: Marks, g: FlagCodes) -> [u8; layout::LENGTH]
+fn image_with(
+    d: Device,
+    k: Registers,
+    s: SenderParts,
+    r: ReceiverParts,
+    m: Marks,
+    g: FlagCodes,
+) -> [u8; layout::LENGTH]
     ensures { λ b. ⌜ b ≡ imageWith d k s r m g ⌝ }
 {
     [

@@ -56,7 +56,12 @@ fn format_with(a: u8, c: u8, size: Size, parity: Parity) -> Format
 fn format_of(a: u8, b: u8, c: u8) -> Format
     ensures { λ r. ⌜ r ≡ formatOf a b c ⌝ }
 {
-    format_with(a, c, known_size(size_code(b, c)), usart::parity_of(c / 16 % 4))
+    format_with(
+        a,
+        c,
+        known_size(size_code(b, c)),
+        usart::parity_of(c / 16 % 4),
+    )
 }
 
 pub fn format_at(s: &[u8]) -> Format
@@ -90,7 +95,10 @@ fn buffer_at(s: &[u8]) -> Buffer
     requires { ⌜ length (now s) ≡ recordLength ⌝ }
     ensures { λ r. ⌜ r ≡ bufferAt (now (s .entry)) ⌝ }
 {
-    buffer_of(s[layout::FULL] == 1, word(s[layout::DATA], s[layout::DATA + 1]))
+    buffer_of(
+        s[layout::FULL] == 1,
+        word(s[layout::DATA], s[layout::DATA + 1]),
+    )
 }
 
 pub fn transmission_at(s: &[u8]) -> Transmission
@@ -145,7 +153,11 @@ fn sampler_at(s: &[u8]) -> Sampler
     requires { ⌜ length (now s) ≡ recordLength ⌝ }
     ensures { λ r. ⌜ r ≡ samplerAt (now (s .entry)) ⌝ }
 {
-    sampler_of(s[layout::RECEIVING] == 1, s[layout::LAST] == 1, reception_at(s))
+    sampler_of(
+        s[layout::RECEIVING] == 1,
+        s[layout::LAST] == 1,
+        reception_at(s),
+    )
 }
 
 fn places_at(s: &[u8]) -> Places

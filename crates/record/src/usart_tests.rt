@@ -228,14 +228,22 @@ fn counter_fits(s: &[u8]) -> bool
     requires { ⌜ length (now s) ≡ recordLength ⌝ }
     ensures { λ r. ⌜ r ≡ counterFits (setAt (now (s .entry)) sendingByte) (setAt (now (s .entry)) receivingByte) (baudAt (now (s .entry))) ⌝ }
 {
-    counter_test(s[layout::SENDING] == 1, s[layout::RECEIVING] == 1, baud_at(s))
+    counter_test(
+        s[layout::SENDING] == 1,
+        s[layout::RECEIVING] == 1,
+        baud_at(s),
+    )
 }
 
 fn buffer_fits(s: &[u8], f: Format) -> bool
     requires { ⌜ length (now s) ≡ recordLength ⌝ }
     ensures { λ r. ⌜ r ≡ bufferFits f (setAt (now (s .entry)) fullByte) (wordAt (now (s .entry)) dataByte) ⌝ }
 {
-    buffer_test(f, s[layout::FULL] == 1, word(s[layout::DATA], s[layout::DATA + 1]))
+    buffer_test(
+        f,
+        s[layout::FULL] == 1,
+        word(s[layout::DATA], s[layout::DATA + 1]),
+    )
 }
 
 fn shifter_fits(s: &[u8], f: Format) -> bool
@@ -249,7 +257,12 @@ fn sampler_fits(s: &[u8], f: Format) -> bool
     requires { ⌜ length (now s) ≡ recordLength ⌝ }
     ensures { λ r. ⌜ r ≡ samplerFits f (setAt (now (s .entry)) receivingByte) (setAt (now (s .entry)) lastByte) (receptionAt (now (s .entry))) ⌝ }
 {
-    sampler_test(f, s[layout::RECEIVING] == 1, s[layout::LAST] == 1, reception_at(s))
+    sampler_test(
+        f,
+        s[layout::RECEIVING] == 1,
+        s[layout::LAST] == 1,
+        reception_at(s),
+    )
 }
 
 fn places_fit(s: &[u8]) -> bool
