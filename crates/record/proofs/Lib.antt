@@ -10,4 +10,5 @@ pub mod AcceptLaws
 pub mod BytesLaws
 pub mod InPlaceLaws
 pub mod ReportLaws
+pub mod StepLaws
 pub mod Round

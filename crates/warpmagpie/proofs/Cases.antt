@@ -1,33 +1,45 @@
 -- What a call answers and leaves, by what its record decodes to.
-use Prim.Native.Nat.{ℕ}
-use mathlib.Core.List.{List}
-use mathlib.Core.Path.{_≡_, refl, sym, ap, ap₂, _∙_}
-use lib.ListN.{length}
-use borrow.Author.Tests.{eq-eqb, ne-eqb}
+use Prim.Native.Nat.{ℕ, _<_}
+use mathlib.Core.List.{List, [], _∷_}
+use mathlib.Core.Path.{_≡_, refl, sym, ap, ap₂, subst, _∙_}
+use native.Mathlib.Omega.{arith}
+use lib.ListN.{length, getD, set}
+use borrow.Author.Tests.{eq-eqb, ne-eqb, lt-ltb}
 use Rattle.answer.specs.Number.{numberOf}
 use Rattle.device.specs.Outcome.{answerOf, readAnswerOf, valueOf}
 use Rattle.device.specs.Register.{writeOf, readOf, vectorOf}
-use Rattle.device.specs.Run.{outputsOf, runOf, shown}
-use Rattle.device.specs.Unit.{resetDevice, requestsOf}
+use Rattle.device.specs.Run.{ranOf, outputsOf, areLevels, runOf, shown}
+use Rattle.device.specs.Unit.{resetDevice, clockOf, outputOf, clockedOf, requestsOf}
+use Rattle.device.proofs.CountingLaws.{counted-clock, counted-output}
 use Rattle.answer.specs.declared.Refusal.the-variants.{Record}
 use Rattle.device.specs.declared.outcome.Written.{Written}
 use Rattle.device.specs.declared.outcome.Written.the-variants.{Done, Refused}
 use Rattle.device.specs.declared.outcome.Reading.{Reading}
 use Rattle.device.specs.declared.outcome.Reading.the-variants.{Done as Value, Refused as NoValue}
 use Rattle.device.specs.declared.unit.Device.{Device}
+use Rattle.device.specs.declared.unit.Clocked.{Clocked}
+use Rattle.record.specs.Layout.{recordLength}
+use Rattle.record.specs.Lift.{deviceAt}
 use Rattle.record.specs.Codec.{decodeOf, recordOf, storedOver}
 use Rattle.record.specs.declared.codec.Decoded.{Decoded}
 use Rattle.record.specs.declared.codec.Decoded.the-variants.{Accepted, Refused as NoDevice}
+use Rattle.record.specs.InPlace.{steppedOf, steppedOver}
+use Rattle.record.specs.Report.{reportOf}
+use Rattle.record.specs.declared.in_place.Stepped.{Stepped}
+use Rattle.record.specs.declared.in_place.Stepped.the-variants.{Refused as Uncounted, Counted, Due}
+use Rattle.record.specs.declared.report.Reported.{Reported}
+use Rattle.record.specs.declared.report.Reported.the-variants.{Refused as NoReport, Bits}
 use Rattle.record.proofs.Round.{decode-length, stored}
+use Rattle.record.proofs.StepLaws.{counted-from, due-from, refused-from, bits-from, unreported-from}
 use Rattle.warpmagpie.specs.Calls.{kept, resetOn, resetAnswer, recordAfterReset, writeOn, writeAnswer, recordAfterWrite, readOn, keptByRead, readAnswer, readValue, recordAfterRead, vectorOn, vectorAnswer, recordAfterVector, runOn, outputsOn, runAnswer, recordAfterRun, outputsAfterRun, requestsAnswerOn, requestsValueOn, requestsAnswer, requestsValue}
 use Rattle.warpmagpie.specs.PutBack.{putBack, putBackRead}
 
--- on 64 bytes, what is put back is what is kept
-pub put-back : (s : List ℕ) (w : Written) → length s ≡ 64 → putBack w s ≡ kept s w
+-- on a slice as long as a record, what is put back is what is kept
+pub put-back : (s : List ℕ) (w : Written) → length s ≡ recordLength → putBack w s ≡ kept s w
 put-back s (Done d) h = stored d s h
 put-back s (Refused r) h = refl
 
-pub put-back-read : (s : List ℕ) (g : Reading) → length s ≡ 64 → putBackRead g s ≡ keptByRead s g
+pub put-back-read : (s : List ℕ) (g : Reading) → length s ≡ recordLength → putBackRead g s ≡ keptByRead s g
 put-back-read s (Value v d) h = stored d s h
 put-back-read s (NoValue r) h = refl
 
@@ -40,12 +52,12 @@ module _ (s : List ℕ) {t : Decoded} {d : Device} (p : t ≡ decodeOf s) (q : t
   abbrev accepted : decodeOf s ≡ Accepted d
   accepted = sym p ∙ q
 
-  pub length-64 : length s ≡ 64
-  length-64 = decode-length s d accepted
+  pub has-length : length s ≡ recordLength
+  has-length = decode-length s d accepted
 
   -- a call that came to w, which was put back
   settle-is : {w x : Written} {n : ℕ} {s' : List ℕ} → w ≡ x → n ≡ answerOf w → s' ≡ putBack w s → (n ≡ answerOf x) × (s' ≡ kept s x)
-  settle-is {w} e hn hs = (hn ∙ ap answerOf e, hs ∙ put-back s w length-64 ∙ ap (kept s) e)
+  settle-is {w} e hn hs = (hn ∙ ap answerOf e, hs ∙ put-back s w has-length ∙ ap (kept s) e)
 
   pub write-done : (a v : ℕ) {n : ℕ} {s' : List ℕ} {w : Written} → w ≡ writeOf d a v → n ≡ answerOf w → s' ≡ putBack w s
       → (n ≡ writeAnswer s a v) × (s' ≡ recordAfterWrite s a v)
@@ -73,7 +85,7 @@ module _ (s : List ℕ) {t : Decoded} {d : Device} (p : t ≡ decodeOf s) (q : t
       → (n ≡ readAnswer s a) × ((v ≡ readValue s a) × (s' ≡ recordAfterRead s a))
   read-done a {n} {v} {s'} {g} hg hn hv hs =
       let e : g ≡ readOn (decodeOf s) a = hg ∙ read-on a in
-      (hn ∙ ap readAnswerOf e, (hv ∙ ap valueOf e, hs ∙ put-back-read s g length-64 ∙ ap (keptByRead s) e))
+      (hn ∙ ap readAnswerOf e, (hv ∙ ap valueOf e, hs ∙ put-back-read s g has-length ∙ ap (keptByRead s) e))
 
   pub requests-done : {v : ℕ} → v ≡ requestsOf d → (0 ≡ requestsAnswer s) × (v ≡ requestsValue s)
   unfolding requestsAnswerOn requestsValueOn
@@ -105,11 +117,71 @@ module _ (s : List ℕ) {t : Decoded} (p : t ≡ decodeOf s) (q : t ≡ NoDevice
   run-refused ls os = rw none (r, (refl, refl))
 
 -- k is what a reset compares the length with
-pub reset-refused : (s : List ℕ) {k n : ℕ} → (length s ≡ k → ⊥) → k ≡ 64 → n ≡ numberOf Record → (n ≡ resetAnswer s) × (s ≡ recordAfterReset s)
+pub reset-refused : (s : List ℕ) {k n : ℕ} → (length s ≡ k → ⊥) → k ≡ recordLength → n ≡ numberOf Record → (n ≡ resetAnswer s) × (s ≡ recordAfterReset s)
 unfolding resetOn
-reset-refused s h e r = rw (ne-eqb (length s) 64 (λ z. h (z ∙ sym e))) (r, refl)
+reset-refused s h e r = rw (ne-eqb (length s) recordLength (λ z. h (z ∙ sym e))) (r, refl)
 
-pub reset-done : (s : List ℕ) {s' : List ℕ} {d : Device} {k : ℕ} → length s ≡ k → k ≡ 64 → d ≡ resetDevice → s' ≡ storedOver d s
+pub reset-done : (s : List ℕ) {s' : List ℕ} {d : Device} {k : ℕ} → length s ≡ k → k ≡ recordLength → d ≡ resetDevice → s' ≡ storedOver d s
     → (0 ≡ resetAnswer s) × (s' ≡ recordAfterReset s)
 unfolding resetOn
-reset-done s {s'} {d} h e hd hs = rw (eq-eqb (length s) 64 (h ∙ e)) (refl, hs ∙ stored d s (h ∙ e) ∙ ap recordOf hd)
+reset-done s {s'} {d} h e hd hs = rw (eq-eqb (length s) recordLength (h ∙ e)) (refl, hs ∙ stored d s (h ∙ e) ∙ ap recordOf hd)
+
+-- a run of one clock l, whose level is one and whose output slice fits
+module _ (s : List ℕ) (l : ℕ) (os : List ℕ) (low : l < 32) (fits : length os ≡ 1) where
+  one-done : (d : Device) → runOf d (l ∷ []) os ≡ Done (clockOf d l)
+  unfolding areLevels ranOf
+  one-done d = rw (eq-eqb (length os) 1 fits, lt-ltb l 32 low)
+
+  -- what it leaves: the record of the device after the clock, and its output byte in the one place
+  one-is : (d : Device) {s' os' : List ℕ} → decodeOf s ≡ Accepted d → s' ≡ recordOf (clockOf d l) → os' ≡ outputOf (clockOf d l) l ∷ []
+      → RunIs s (l ∷ []) os 0 s' os'
+  unfolding runOn outputsOn outputsOf
+  one-is d e hs ho = rw (e, one-done d) (refl, (hs, ho))
+
+  -- the first byte of a slice of one
+  only : (o : ℕ) → set os 0 o ≡ o ∷ []
+  only o = one os fits o
+    where
+      one : (xs : List ℕ) → length xs ≡ 1 → (x : ℕ) → set xs 0 x ≡ x ∷ []
+      one [] h x = absurd (omega (arith, h))
+      one (y ∷ []) h x = refl
+      one (y ∷ (z ∷ ys)) h x = absurd (omega (arith, h))
+
+  -- by what `count` came to
+  module _ {r : Stepped} (p : r ≡ steppedOf s l) {s' : List ℕ} (hs : s' ≡ steppedOver s l) where
+    pub one-counted : {o : ℕ} {os' : List ℕ} → r ≡ Counted o → os' ≡ set os 0 o → RunIs s (l ∷ []) os 0 s' os'
+    one-counted {o} q ho =
+        let c = counted-from s l p q in
+        let e = counted-clock (deviceAt s) l (c .counting) in
+        one-is (deviceAt s) (c .decoded) (hs ∙ c .after ∙ ap recordOf (sym e))
+        (ho ∙ only o ∙ ap (λ (n : ℕ). n ∷ []) (c .output ∙ sym (counted-output (deviceAt s) l) ∙ ap (λ (d : Device). outputOf d l) (sym e)))
+
+    pub one-due : {d : Device} {c : Clocked} {s'' os' : List ℕ} → r ≡ Due d → c ≡ clockedOf d l → s'' ≡ storedOver (c .device) s' → os' ≡ set os 0 (c .output)
+        → RunIs s (l ∷ []) os 0 s'' os'
+    one-due {d} {c} q hc hr ho =
+        let f = due-from s l p q in
+        let e : s' ≡ s = hs ∙ f .1 in
+        let n : length s' ≡ recordLength = ap length e ∙ decode-length s d (f .0) in
+        one-is d (f .0) (hr ∙ stored (c .device) s' n ∙ ap (λ (x : Clocked). recordOf (x .device)) hc)
+        (ho ∙ only (c .output) ∙ ap (λ (x : Clocked). x .output ∷ []) hc)
+
+    pub one-refused : {n : ℕ} → r ≡ Uncounted → n ≡ numberOf Record → RunIs s (l ∷ []) os n s' os
+    unfolding runOn outputsOn
+    one-refused q hn = let f = refused-from s l p q in rw (f .0) (hn, (hs ∙ f .1, refl))
+
+-- a slice of one level
+pub single : (ls : List ℕ) → length ls ≡ 1 → getD ls 0 0 ∷ [] ≡ ls
+single [] h = absurd (omega (arith, h))
+single (l ∷ []) h = refl
+single (l ∷ (m ∷ ls)) h = absurd (omega (arith, h))
+
+pub run-single : (s ls os : List ℕ) {n : ℕ} {s' os' : List ℕ} → length ls ≡ 1 → RunIs s (getD ls 0 0 ∷ []) os n s' os' → RunIs s ls os n s' os'
+run-single s ls os {n} {s'} {os'} h q = subst (λ (x : List ℕ). RunIs s x os n s' os') (single ls h) q
+
+-- a report, by what `requests` came to
+module _ (s : List ℕ) {r : Reported} (p : r ≡ reportOf s) where
+  pub report-done : {b : ℕ} → r ≡ Bits b → (0 ≡ requestsAnswer s) × (b ≡ requestsValue s)
+  report-done q = let f = bits-from s p q in requests-done s refl (f .0) (f .1)
+
+  pub report-refused : {n : ℕ} → r ≡ NoReport → n ≡ numberOf Record → (n ≡ requestsAnswer s) × (0 ≡ requestsValue s)
+  report-refused q hn = requests-refused s refl (unreported-from s p q) hn

@@ -14,6 +14,7 @@ use Rattle.device.specs.declared.outcome.Written.{Written}
 use Rattle.device.specs.declared.outcome.Written.the-variants.{Done, Refused}
 use Rattle.device.specs.declared.outcome.Reading.{Reading}
 use Rattle.device.specs.declared.outcome.Reading.the-variants.{Done as Value, Refused as NoValue}
+use Rattle.record.specs.Layout.{recordLength}
 use Rattle.record.specs.Codec.{decodeOf, recordOf}
 use Rattle.record.specs.declared.codec.Decoded.{Decoded}
 use Rattle.record.specs.declared.codec.Decoded.the-variants.{Accepted, Refused as NoDevice}
@@ -25,7 +26,7 @@ kept s (Refused r) = s
 
 -- reset ignores the old bytes and refuses only a wrong length
 unfoldable pub resetOn : List ℕ → Written
-resetOn s = pick (eqb (length s) 64) (Done resetDevice) (Refused Record)
+resetOn s = pick (eqb (length s) recordLength) (Done resetDevice) (Refused Record)
 
 abbrev pub resetAnswer : List ℕ → ℕ
 resetAnswer s = answerOf (resetOn s)

@@ -1,4 +1,4 @@
--- A means, no rule: what is put back over a record's bytes, which on 64 bytes is what `kept` says.
+-- A means, no rule: what is put back over a record's bytes, which on a slice as long as a record is what `kept` says.
 use Prim.Native.Nat.{ℕ}
 use mathlib.Core.List.{List}
 use Rattle.device.specs.declared.outcome.Written.{Written}

@@ -3,7 +3,12 @@ use device::Device;
 use device::Reading;
 use device::Written;
 use record::Decoded;
+use record::Reported;
+use record::Stepped;
+ghost use mathlib.Core.List.{[], _∷_};
 ghost use mathlib.Core.Path.{_≡_};
+ghost use Prim.Native.Nat.{_<_};
+ghost use lib.ListN.{length};
 ghost use Rattle.answer.specs.Number.{numberOf};
 ghost use Rattle.answer.specs.declared.Refusal.the-variants.{Record};
 ghost use Rattle.device.specs.Outcome.{answerOf, readAnswerOf, valueOf};
@@ -56,7 +61,7 @@ pub extern "C" fn warpmagpie_reset(image: &mut [u8]) -> u8
     ensures { λ r. ⌜ r ≡ resetAnswer (now (image .entry)) ⌝ }
     ensures { λ _. ⌜ now (image .exit) ≡ recordAfterReset (now (image .entry)) ⌝ }
 {
-    if image.len() != 64 {
+    if image.len() != record::LENGTH {
         return no_record();
     }
     record::store(Device::reset(), image);
@@ -103,8 +108,8 @@ pub extern "C" fn warpmagpie_take_vector(image: &mut [u8], vector: u8) -> u8
     }
 }
 
-#[no_mangle]
-pub extern "C" fn warpmagpie_run(image: &mut [u8], levels: &[u8], outputs: &mut [u8]) -> u8
+// A run of any length.
+fn many_clocks(image: &mut [u8], levels: &[u8], outputs: &mut [u8]) -> u8
     ensures { λ r. ⌜ r ≡ runAnswer (now (image .entry)) (now (levels .entry)) (now (outputs .entry)) ⌝ }
     ensures { λ _. ⌜ now (image .exit) ≡ recordAfterRun (now (image .entry)) (now (levels .entry)) (now (outputs .entry)) ⌝ }
     ensures { λ _. ⌜ now (outputs .exit) ≡ outputsAfterRun (now (image .entry)) (now (levels .entry)) (now (outputs .entry)) ⌝ }
@@ -116,18 +121,59 @@ pub extern "C" fn warpmagpie_run(image: &mut [u8], levels: &[u8], outputs: &mut 
     }
 }
 
+// A run of one clock. Most only count, and are made in place.
+fn one_clock(image: &mut [u8], level: u8, outputs: &mut [u8]) -> u8
+    requires { ⌜ level < 32 ⌝ }
+    requires { ⌜ length (now outputs) ≡ 1 ⌝ }
+    ensures { λ r. ⌜ r ≡ runAnswer (now (image .entry)) (level ∷ []) (now (outputs .entry)) ⌝ }
+    ensures { λ _. ⌜ now (image .exit) ≡ recordAfterRun (now (image .entry)) (level ∷ []) (now (outputs .entry)) ⌝ }
+    ensures { λ _. ⌜ now (outputs .exit) ≡ outputsAfterRun (now (image .entry)) (level ∷ []) (now (outputs .entry)) ⌝ }
+{
+    let got = record::count(image, level);
+    match got {
+        Stepped::Counted(output) => {
+            outputs[0] = output;
+            0
+        }
+        Stepped::Due(d) => {
+            let c = d.clock(level);
+            let next = c.device;
+            record::store(next, image);
+            outputs[0] = c.output;
+            0
+        }
+        Stepped::Refused => no_record(),
+    }
+}
+
+#[no_mangle]
+pub extern "C" fn warpmagpie_run(image: &mut [u8], levels: &[u8], outputs: &mut [u8]) -> u8
+    ensures { λ r. ⌜ r ≡ runAnswer (now (image .entry)) (now (levels .entry)) (now (outputs .entry)) ⌝ }
+    ensures { λ _. ⌜ now (image .exit) ≡ recordAfterRun (now (image .entry)) (now (levels .entry)) (now (outputs .entry)) ⌝ }
+    ensures { λ _. ⌜ now (outputs .exit) ≡ outputsAfterRun (now (image .entry)) (now (levels .entry)) (now (outputs .entry)) ⌝ }
+{
+    if levels.len() == 1 {
+        if outputs.len() == 1 {
+            if levels[0] < 32 {
+                return one_clock(image, levels[0], outputs);
+            }
+        }
+    }
+    many_clocks(image, levels, outputs)
+}
+
 #[no_mangle]
 pub extern "C" fn warpmagpie_requests(image: &[u8], requests: &mut u8) -> u8
     ensures { λ r. ⌜ r ≡ requestsAnswer (now (image .entry)) ⌝ }
     ensures { λ _. ⌜ now (requests .exit) ≡ requestsValue (now (image .entry)) ⌝ }
 {
-    let got = record::decode(image);
+    let got = record::requests(image);
     match got {
-        Decoded::Accepted(d) => {
-            *requests = d.requests();
+        Reported::Bits(bits) => {
+            *requests = bits;
             0
         }
-        Decoded::Refused => {
+        Reported::Refused => {
             *requests = 0;
             no_record()
         }

@@ -1,21 +1,13 @@
-use denote.Ref.{now}
-use Rattle.warpmagpie.proofs.Cases.{run-done, run-refused}
+use Rattle.warpmagpie.proofs.Cases.{run-single}
 use borrow.Author.Needs.{needs}
 use Rattle.warpmagpie.proofs.calls.warpmagpie_run.Statement.{statement}
 use Rattle.warpmagpie.proofs.calls.warpmagpie_run.Tie as tie
 
 returns : tie.Need-returns
-returns c =
-    let a = c .before .before .before .before .before .before .before .before .before .before .before .before .before .before .before .before .args in
-    run-done _ (c .before .before .before .before .before .before .before .before .before .before .before .decode .ensures) (c .before .before .before .before .before .before .before .before .before .got .given .1) (now (a .levels)) (now (a .outputs)) (c .before .before .before .before .before .before .run .ensures .0)
-    (c .before .before .settle .ensures .0) (c .before .before .settle .ensures .1) (c .before .before .before .before .before .before .run .ensures .1)
+returns c = run-single _ _ _ (c .before .before .before .before .before .before .before .before .before .before .before .if1 .taken) (c .before .before .before .before .one-clock .ensures)
 
 returns-2 : tie.Need-returns-2
-returns-2 c = run-refused _ (c .before .before .before .decode .ensures) (c .before .enum-told .given .1) (c .no-record .ensures) _ _
+returns-2 c = c .before .before .before .before .many-clocks .ensures
 
 pub warpmagpie-run-spec : {M : Type 1} → statement M
-warpmagpie-run-spec =
-    tie.close
-    (tie.spec (λ c κs. search needs) (λ c. search needs) (λ c κs. search needs) (λ c κs. search needs)
-    (λ c. search needs) (λ c κs. search needs) (λ c. search needs) (λ c. search needs) returns (λ c. search needs)
-    returns-2)
+warpmagpie-run-spec = tie.close (tie.spec (λ c. search needs) (λ c. search needs) (λ c κs. search needs) (λ c. search needs) (λ c. search needs) returns (λ c κs. search needs) (λ c. search needs) (λ c. search needs) returns-2)
