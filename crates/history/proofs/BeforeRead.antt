@@ -13,10 +13,10 @@ use Rattle.spi.specs.Control.{divisorNumber}
 use Rattle.spi.specs.Unit.{resetSpi}
 use Rattle.device.specs.Address.{placeOf}
 use Rattle.device.specs.declared.unit.Device.{Device}
-use Rattle.record.specs.Codec.{eqList, recordOf, decodeOf}
+use Rattle.record.specs.Codec.{recordOf, decodeOf}
 use Rattle.record.specs.Codes.{flagOf}
 use Rattle.record.specs.Parts.{bufferFrom, shifterFrom, samplerFrom, placesFrom}
-use Rattle.record.specs.Ranges.{disabledFits, enabledFits, dueFits, inRange}
+use Rattle.record.specs.Accepts.{isWithin, counterFits, bufferFits, shifterFits, samplerFits, placesFit, enabledFits, usartFits, spiFits, accepts, isRecord}
 use Rattle.warpmagpie.specs.Calls.{readOn}
 use Rattle.history.specs.Call.{recordAfter, read}
 use Rattle.history.specs.Receiving.{seenBy}
@@ -41,10 +41,10 @@ twoHeld = record {
 
 -- just before the read: the first frame's
 pub seen-before : seenBy (recordOf twoHeld) ≡ record { value = 0x55; rxb8 = 1; fe = 0; dor = 0; upe = 0 }
-unfolding twoHeld decodeOf recordOf eqList inRange disabledFits enabledFits dueFits flagOf bufferFrom shifterFrom samplerFrom placesFrom sizeOf parityOf divisorNumber readOn placeOf
+unfolding twoHeld decodeOf recordOf isWithin counterFits bufferFits shifterFits samplerFits placesFit enabledFits usartFits spiFits accepts isRecord flagOf bufferFrom shifterFrom samplerFrom placesFrom sizeOf parityOf divisorNumber readOn placeOf
 seen-before = refl
 
 -- after it: the next one's
 pub seen-after : seenBy (recordAfter (recordOf twoHeld) (read 0xC6)) ≡ record { value = 0xAA; rxb8 = 0; fe = 1; dor = 1; upe = 1 }
-unfolding twoHeld decodeOf recordOf eqList inRange disabledFits enabledFits dueFits flagOf bufferFrom shifterFrom samplerFrom placesFrom sizeOf parityOf divisorNumber readOn placeOf
+unfolding twoHeld decodeOf recordOf isWithin counterFits bufferFits shifterFits samplerFits placesFit enabledFits usartFits spiFits accepts isRecord flagOf bufferFrom shifterFrom samplerFrom placesFrom sizeOf parityOf divisorNumber readOn placeOf
 seen-after = refl

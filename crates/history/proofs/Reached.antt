@@ -8,6 +8,7 @@ use Rattle.device.specs.Valid.{Valid}
 use Rattle.device.specs.declared.outcome.Written.{Written}
 use Rattle.device.specs.declared.unit.Device.{Device}
 use Rattle.device.proofs.ValidLaws.{valid-reset}
+use Rattle.record.specs.Layout.{recordLength}
 use Rattle.record.specs.Codec.{decodeOf}
 use Rattle.record.specs.declared.codec.Decoded.the-variants.{Accepted}
 use Rattle.record.proofs.Round.{decode-record, decode-valid}
@@ -23,8 +24,8 @@ pub keeps-device : (s : List ℕ) (d : Device) (cs : List Call) → decodeOf s �
 keeps-device =
     induct (λ s cs. HasDevice (finalRecord s cs)) (λ s d h. (d, (h, decode-valid s d h))) (λ s d h c cs e k. k)
 
-pub reset-record : (s : List ℕ) → length s ≡ 64 → decodeOf (recordAfterReset s) ≡ Accepted resetDevice
+pub reset-record : (s : List ℕ) → length s ≡ recordLength → decodeOf (recordAfterReset s) ≡ Accepted resetDevice
 reset-record s e = ap (λ (w : Written). decodeOf (kept s w)) (reset-done s e) ∙ decode-record resetDevice valid-reset
 
-pub reached : (s : List ℕ) (cs : List Call) → length s ≡ 64 → Bytes cs → HasDevice (finalRecord (recordAfterReset s) cs)
+pub reached : (s : List ℕ) (cs : List Call) → length s ≡ recordLength → Bytes cs → HasDevice (finalRecord (recordAfterReset s) cs)
 reached s cs e p = keeps-device (recordAfterReset s) resetDevice cs (reset-record s e) p

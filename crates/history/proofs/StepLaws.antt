@@ -19,6 +19,7 @@ use Rattle.device.specs.declared.outcome.Reading.{Reading}
 use Rattle.device.specs.declared.outcome.Reading.the-variants.{Done as Value, Refused as NoValue}
 use Rattle.device.specs.declared.unit.Device.{Device}
 use Rattle.device.proofs.ValidLaws.{valid-reset, valid-write, valid-read, valid-vector, valid-run}
+use Rattle.record.specs.Layout.{recordLength}
 use Rattle.record.specs.Codec.{recordOf, decodeOf}
 use Rattle.record.specs.declared.codec.Decoded.{Decoded}
 use Rattle.record.specs.declared.codec.Decoded.the-variants.{Accepted}
@@ -35,10 +36,10 @@ kept-by-read : (s : List ℕ) (d : Device) (g : Reading) → decodeOf s ≡ Acce
 kept-by-read s d (Value x e) h v = decode-record e v
 kept-by-read s d (NoValue r) h v = h
 
--- on a record of 64 bytes reset is done
-pub reset-done : (s : List ℕ) → length s ≡ 64 → resetOn s ≡ Done resetDevice
+-- on a slice as long as a record reset is done
+pub reset-done : (s : List ℕ) → length s ≡ recordLength → resetOn s ≡ Done resetDevice
 unfolding resetOn
-reset-done s e = ap (λ (t : Bool). pick t (Done resetDevice) (Refused Record)) (eq-eqb (length s) 64 e)
+reset-done s e = ap (λ (t : Bool). pick t (Done resetDevice) (Refused Record)) (eq-eqb (length s) recordLength e)
 
 -- the device after a call
 abbrev pub nextDevice : List ℕ → Device → Call → Device

@@ -29,6 +29,7 @@ use Rattle.device.specs.declared.outcome.Written.{Written}
 use Rattle.device.specs.declared.outcome.Written.the-variants.{Done, Refused}
 use Rattle.device.specs.declared.unit.Device.{Device}
 use Rattle.device.proofs.RegisterLaws.{answer-serial, answer-spi}
+use Rattle.record.specs.Layout.{recordLength}
 use Rattle.record.specs.Codec.{decodeOf}
 use Rattle.record.specs.declared.codec.Decoded.{Decoded}
 use Rattle.record.specs.declared.codec.Decoded.the-variants.{Accepted, Refused as NoDevice}
@@ -121,7 +122,7 @@ reset-by false = refl
 
 reset-table : (s : List ℕ) → answerOf (resetOn s) ≡ pick (isWrongLength s) 5 0
 unfolding resetOn
-reset-table s = reset-by (eqb (length s) 64)
+reset-table s = reset-by (eqb (length s) recordLength)
 
 report-table : (x : Decoded) → requestsAnswerOn x ≡ pick (isNoDevice x) 5 0
 unfolding requestsAnswerOn

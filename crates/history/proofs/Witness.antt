@@ -41,10 +41,10 @@ use Rattle.device.specs.Register.{vectorOf}
 use Rattle.device.specs.Run.{ranOf, areLevels}
 use Rattle.device.specs.Serial.{vectorsAt}
 use Rattle.device.specs.declared.unit.Device.{Device}
-use Rattle.record.specs.Codec.{eqList, recordOf, decodeOf}
+use Rattle.record.specs.Codec.{recordOf, decodeOf}
 use Rattle.record.specs.Codes.{flagOf}
 use Rattle.record.specs.Parts.{bufferFrom, shifterFrom, samplerFrom, placesFrom}
-use Rattle.record.specs.Ranges.{isUndecided, disabledFits, enabledFits, dueFits, inRange}
+use Rattle.record.specs.Accepts.{isWithin, counterFits, bufferFits, shifterFits, isUndecided, firstFits, secondFits, receptionFits, samplerFits, placesFit, enabledFits, usartFits, outFits, masterFits, slaveFits, spiFits, accepts, isRecord}
 use Rattle.record.specs.declared.codec.Decoded.the-variants.{Accepted}
 use Rattle.warpmagpie.specs.Calls.{writeOn, readOn, vectorOn, runOn}
 use Rattle.history.specs.Call.{run, Call, write, read, vector, pass, report, finalRecord, Bytes, usartOf, OnlyData, rxdLevels}
@@ -129,7 +129,7 @@ record Found (u2x : Bool) (s : List ℕ) : Type 0 where
   same : serialParts s (calls u2x) ≡ serialParts s (quiet u2x)
 
 found : (u2x : Bool) → Found u2x (recordOf (start u2x))
-unfolding throughout only roomy start frames level line blank calls quiet shown free room bool-eqb lineLevel frameBit sumOfBits leftOf steppedOf idleOf castOf nextBitOf shiftedOf decidedOf votedOf sampledOf samplerOf listenedOf isBusy clockOf sizeOf parityOf formattedOf writeC isReservedC sizedC timedOf transmittedOf serialVectorOf parityError placeOf ranOf areLevels vectorOf vectorsAt byModeOf masterOf divisorNumber isModeFault writeSpcr loadedOf spiVectorOf isUnderWay firstOut nextEdge edgedOf differs isRequested isSampling isPutting edgeOf outBit shiftedIn decodeOf recordOf eqList inRange isUndecided disabledFits enabledFits dueFits flagOf bufferFrom shifterFrom samplerFrom placesFrom writeOn readOn vectorOn runOn
+unfolding throughout only roomy start frames level line blank calls quiet shown free room bool-eqb lineLevel frameBit sumOfBits leftOf steppedOf idleOf castOf nextBitOf shiftedOf decidedOf votedOf sampledOf samplerOf listenedOf isBusy clockOf sizeOf parityOf formattedOf writeC isReservedC sizedC timedOf transmittedOf serialVectorOf parityError placeOf ranOf areLevels vectorOf vectorsAt byModeOf masterOf divisorNumber isModeFault writeSpcr loadedOf spiVectorOf isUnderWay firstOut nextEdge edgedOf differs isRequested isSampling isPutting edgeOf outBit shiftedIn decodeOf recordOf isWithin counterFits bufferFits shifterFits isUndecided firstFits secondFits receptionFits samplerFits placesFit enabledFits usartFits outFits masterFits slaveFits spiFits accepts isRecord flagOf bufferFrom shifterFrom samplerFrom placesFrom writeOn readOn vectorOn runOn
 found true = record {
   valid = refl;
   only = refl;

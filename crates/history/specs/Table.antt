@@ -15,6 +15,7 @@ use Rattle.device.specs.Address.{placeOf}
 use Rattle.device.specs.declared.address.Place.{Place}
 use Rattle.device.specs.declared.address.Place.the-variants.{Serial, Spi, Nowhere}
 use Rattle.device.specs.declared.unit.Device.{Device}
+use Rattle.record.specs.Layout.{recordLength}
 use Rattle.record.specs.Codec.{decodeOf}
 use Rattle.record.specs.declared.codec.Decoded.{Decoded}
 use Rattle.record.specs.declared.codec.Decoded.the-variants.{Accepted, Refused}
@@ -31,7 +32,7 @@ isNoRecord s = isNoDevice (decodeOf s)
 
 -- 5, of a reset: it refuses only a wrong length
 abbrev pub isWrongLength : List ℕ → Bool
-isWrongLength s = not (eqb (length s) 64)
+isWrongLength s = not (eqb (length s) recordLength)
 
 -- 1: no such register address
 abbrev pub isNoPlace : Place → Bool
