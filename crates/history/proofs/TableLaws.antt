@@ -8,7 +8,7 @@ use lib.Dec.{eqb, ltb}
 use lib.ListN.{length}
 use borrow.Author.Tests.{eq-eqb, ne-eqb, eqb-true, ltb-true, ltb-false}
 use Rattle.choice.specs.Pick.{pick}
-use Rattle.choice.proofs.Picks.{split}
+use Rattle.choice.proofs.Picks.{split, clash}
 use Rattle.usart.specs.Unit.{txcRequested}
 use Rattle.usart.specs.Write.{writeOf as serialWriteOf, vectorOf as serialVectorOf}
 use Rattle.usart.proofs.RefusalLaws.{write-number as serial-write, vector-number as serial-vector}
@@ -33,10 +33,12 @@ use Rattle.record.specs.Layout.{recordLength}
 use Rattle.record.specs.Codec.{decodeOf}
 use Rattle.record.specs.declared.codec.Decoded.{Decoded}
 use Rattle.record.specs.declared.codec.Decoded.the-variants.{Accepted, Refused as NoDevice}
+use Rattle.record.specs.Refusing.{NoRecord}
+use Rattle.record.proofs.Five.{five}
 use Rattle.record.proofs.Round.{record-decode}
 use Rattle.warpmagpie.specs.Calls.{kept, keptByRead, resetOn, writeOn, readOn, readAnswer, readValue, vectorOn, runOn, outputsOn, runAnswer, recordAfterRun, outputsAfterRun, requestsAnswerOn, requestsAnswer, requestsValueOn, requestsValue}
 use Rattle.history.specs.Call.{run, query, Call, reset, write, read, vector, pass, effect, recordAfter, deviceIn}
-use Rattle.history.specs.Table.{isNoDevice, isWrongLength, isNoPlace, isNowhere, isNoVector, reservedAt, unmodelledAt, underWayAt, areUneven, hasHighLevel, isUnrequested, Numbers}
+use Rattle.history.specs.Table.{isNoDevice, isNoRecord, isWrongLength, isNoPlace, isNowhere, isNoVector, reservedAt, unmodelledAt, underWayAt, areUneven, hasHighLevel, isUnrequested, Numbers}
 
 -- writes
 write-in : (d : Device) (p : Place) (v : ℕ) → v < 256
@@ -129,9 +131,18 @@ unfolding requestsAnswerOn
 report-table (Accepted d) = refl
 report-table NoDevice = refl
 
+-- number 5 by itself
+refused-as : (r : Decoded) → isNoDevice r ≡ true → r ≡ NoDevice
+refused-as (Accepted d) e = clash e refl
+refused-as NoDevice e = refl
+
+no-record-table : (s : List ℕ) → (isNoRecord s ≡ true → NoRecord s) × (NoRecord s → isNoRecord s ≡ true)
+no-record-table s = (λ e. five s .0 (refused-as (decodeOf s) e), λ n. ap isNoDevice (five s .1 n))
+
 -- each number is given exactly when the table says
 pub numbered : (s : List ℕ) → Numbers s
 numbered s = record {
+  noRecord = no-record-table s;
   reset = reset-table s;
   write = write-table (decodeOf s);
   read = read-table (decodeOf s);

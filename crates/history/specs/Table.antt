@@ -17,12 +17,14 @@ use Rattle.device.specs.declared.address.Place.the-variants.{Serial, Spi, Nowhe
 use Rattle.device.specs.declared.unit.Device.{Device}
 use Rattle.record.specs.Layout.{recordLength}
 use Rattle.record.specs.Codec.{decodeOf}
+use Rattle.record.specs.Refusing.{NoRecord}
 use Rattle.record.specs.declared.codec.Decoded.{Decoded}
 use Rattle.record.specs.declared.codec.Decoded.the-variants.{Accepted, Refused}
 use Rattle.warpmagpie.specs.Calls.{resetAnswer, writeAnswer, readAnswer, vectorAnswer, runAnswer, requestsAnswer}
 use Rattle.history.specs.Call.{deviceOf}
 
--- 5: record not 64 bytes, a field out of its range, or an unused byte not zero, so that it is no device's
+-- 5: record not 64 bytes, a field out of its range (also against the format), or an unused byte not zero. As a test it is that the record
+-- is no device's; `Numbers` has it by itself
 abbrev pub isNoDevice : Decoded → Bool
 isNoDevice (Accepted d) = false
 isNoDevice Refused = true
@@ -80,6 +82,7 @@ isUnrequested d n = eqb n 0 && not (txcRequested (d .usart)) || eqb n 1 && not (
 
 -- order: 5, 1, 2, 3, 4; for a run 5, 6, 7; for a vector 5, 1, 8
 pub record Numbers (s : List ℕ) : Type 0 where
+  pub noRecord : (isNoRecord s ≡ true → NoRecord s) × (NoRecord s → isNoRecord s ≡ true)
   pub reset : resetAnswer s ≡ pick (isWrongLength s) 5 0
   pub write : (a v : ℕ) → v < 256
       → writeAnswer s a v

@@ -89,14 +89,14 @@ module _ (s : List ℕ) (h : accepts s ≡ true) where
   x i = byteAt s i
 
   -- what `accepts` tests, one by one
-  record Tests : Type 0 where
-    within : isWithin s most ≡ true
-    layout : x layoutByte ≡ layoutNumber
-    settings : settingsFit (x ucsr0aByte) (x ucsr0bByte) (x ucsr0cByte) ≡ true
-    serial : usartFits s ≡ true
-    spi : spiFits (spiAt s) ≡ true
+  pub record Tests : Type 0 where
+    pub within : isWithin s most ≡ true
+    pub layout : x layoutByte ≡ layoutNumber
+    pub settings : settingsFit (x ucsr0aByte) (x ucsr0bByte) (x ucsr0cByte) ≡ true
+    pub serial : usartFits s ≡ true
+    pub spi : spiFits (spiAt s) ≡ true
 
-  tests : Tests
+  pub tests : Tests
   unfolding accepts
   tests =
       let a = both (isWithin s most) _ h in
@@ -105,15 +105,15 @@ module _ (s : List ℕ) (h : accepts s ≡ true) where
       let d = both (usartFits s) (spiFits (spiAt s)) (c .1) in
       record { within = a .0; layout = eqb-true _ _ (b .0); settings = c .0; serial = d .0; spi = d .1 }
 
-  record SerialTests : Type 0 where
-    counter : counterFits (setAt s sendingByte) (setAt s receivingByte) (baudAt s) ≡ true
-    buffer : bufferFits (formatAt s) (setAt s fullByte) (wordAt s dataByte) ≡ true
-    shifter : shifterFits (formatAt s) (setAt s sendingByte) (transmissionAt s) ≡ true
-    sampler : samplerFits (formatAt s) (setAt s receivingByte) (setAt s lastByte) (receptionAt s) ≡ true
-    places : placesFit (x heldByte) (wordAt s oldestByte) (wordAt s nextByte) ≡ true
-    enabled : enabledFits (controlAt s .rxen) (setAt s receivingByte) (setAt s lastByte) (x heldByte) (setAt s lostByte) ≡ true
+  pub record SerialTests : Type 0 where
+    pub counter : counterFits (setAt s sendingByte) (setAt s receivingByte) (baudAt s) ≡ true
+    pub buffer : bufferFits (formatAt s) (setAt s fullByte) (wordAt s dataByte) ≡ true
+    pub shifter : shifterFits (formatAt s) (setAt s sendingByte) (transmissionAt s) ≡ true
+    pub sampler : samplerFits (formatAt s) (setAt s receivingByte) (setAt s lastByte) (receptionAt s) ≡ true
+    pub places : placesFit (x heldByte) (wordAt s oldestByte) (wordAt s nextByte) ≡ true
+    pub enabled : enabledFits (controlAt s .rxen) (setAt s receivingByte) (setAt s lastByte) (x heldByte) (setAt s lostByte) ≡ true
 
-  serial : SerialTests
+  pub serial : SerialTests
   unfolding usartFits
   serial =
       let a = both (counterFits (setAt s sendingByte) (setAt s receivingByte) (baudAt s)) _ (tests .serial) in
@@ -126,15 +126,15 @@ module _ (s : List ℕ) (h : accepts s ≡ true) where
   pub limit : (i : ℕ) → i < 64 → x i ≤ getD most i 0
   limit i l = within-at s most (tests .within) i l
 
-  record Registers : Type 0 where
-    mpcm : x 4 % 2 ≡ 0
-    others : x 4 / 4 % 16 ≡ 0
-    rxb8 : x 5 / 2 % 2 ≡ 0
-    ucpol : x 6 % 2 ≡ 0
-    upm : eqb (x 6 / 16 % 4) 1 ≡ false
-    size : isKnown (sizeOf (sizeCode (x 5) (x 6))) ≡ true
+  pub record Registers : Type 0 where
+    pub mpcm : x 4 % 2 ≡ 0
+    pub others : x 4 / 4 % 16 ≡ 0
+    pub rxb8 : x 5 / 2 % 2 ≡ 0
+    pub ucpol : x 6 % 2 ≡ 0
+    pub upm : eqb (x 6 / 16 % 4) 1 ≡ false
+    pub size : isKnown (sizeOf (sizeCode (x 5) (x 6))) ≡ true
 
-  registers : Registers
+  pub registers : Registers
   registers =
       let e = and-both (eqb (x 4 % 2) 0 && eqb (x 4 / 4 % 16) 0 && eqb (x 5 / 2 % 2) 0 && eqb (x 6 % 2) 0 && not (eqb (x 6 / 16 % 4) 1)) _ (tests .settings) in
       let d = and-both (eqb (x 4 % 2) 0 && eqb (x 4 / 4 % 16) 0 && eqb (x 5 / 2 % 2) 0 && eqb (x 6 % 2) 0) _ (e .0) in

@@ -11,4 +11,6 @@ pub mod BytesLaws
 pub mod InPlaceLaws
 pub mod ReportLaws
 pub mod StepLaws
+pub mod Five
 pub mod Round
+pub mod EachRecord

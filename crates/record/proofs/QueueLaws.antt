@@ -90,3 +90,11 @@ enabled-valid false receiving last r n a b lost h e =
     let q = and-both (not receiving && not last) (eqb n 0) (p .0) in
     let s = and-both (not receiving) (not last) (q .0) in
     rw (not-true receiving (s .0), not-true last (s .1), eqb-true n 0 (q .1), not-true lost (p .1)) refl
+
+-- as many as the count says
+pub places-count : (n : ℕ) (a b : Frame) → n ≤ 2 → heldCount (placesFrom n a b) ≡ n
+unfolding placesFrom
+places-count zero a b h = refl
+places-count (suc zero) a b h = refl
+places-count (suc (suc zero)) a b h = refl
+places-count (suc (suc (suc n))) a b h = absurd (omega arith)

@@ -5,5 +5,6 @@ pub mod Image
 pub mod Lift
 pub mod Accepts
 pub mod Codec
+pub mod Refusing
 pub mod InPlace
 pub mod Report
