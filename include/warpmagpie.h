@@ -5,7 +5,8 @@
 
    What C has to keep: a pointer points to as many bytes as its length says (it may be null where the length is 0), and
    the memory of one argument does not overlap that of another. Nothing else is asked of any argument. The record's
-   bytes are described in docs/RECORD.md; a rig need not know them. A record may be copied, stored and brought back.
+   bytes are described in docs/RECORD.md; a rig need not know them. A record may be copied, stored and brought back. One
+   that an archive of another layout left (version 1) is refused with 5.
 
    There is no state but the record. Calls on different records may run in different threads at the same time, as long
    as none writes memory that another was given too; calls on one record come one after the other. */
@@ -21,7 +22,7 @@ extern "C" {
 
 /* Of header, archive and pkg-config file. MAJOR rises where a rig may have to change its code or drop its stored
    records, MINOR where there is more than before, PATCH with any other change. WARPMAGPIE_VERSION is for #if. */
-#define WARPMAGPIE_VERSION_MAJOR 1
+#define WARPMAGPIE_VERSION_MAJOR 2
 #define WARPMAGPIE_VERSION_MINOR 0
 #define WARPMAGPIE_VERSION_PATCH 0
 #define WARPMAGPIE_VERSION \
