@@ -3,7 +3,7 @@
 #include <stdio.h>
 #include <warpmagpie.h>
 
-#if WARPMAGPIE_VERSION < 10000
+#if WARPMAGPIE_VERSION < 20000
 #error "the version is no number that #if can compare"
 #endif
 

@@ -123,7 +123,7 @@ module _ (s : List ℕ) (h : accepts s ≡ true) where
       let e = both (placesFit (x heldByte) (wordAt s oldestByte) (wordAt s nextByte)) _ (d .1) in
       record { counter = a .0; buffer = b .0; shifter = c .0; sampler = d .0; places = e .0; enabled = e .1 }
 
-  pub limit : (i : ℕ) → i < 64 → x i ≤ getD most i 0
+  pub limit : (i : ℕ) → i < recordLength → x i ≤ getD most i 0
   limit i l = within-at s most (tests .within) i l
 
   pub record Registers : Type 0 where
@@ -150,7 +150,7 @@ module _ (s : List ℕ) (h : accepts s ≡ true) where
         size = e .1;
       }
 
-  below : (i : ℕ) → i < 64 → getD most i 0 < 256 → x i < 256
+  below : (i : ℕ) → i < recordLength → getD most i 0 < 256 → x i < 256
   below i l k = let m = limit i l in omega arith
 
   -- the device that they say is valid
@@ -217,7 +217,7 @@ module _ (s : List ℕ) (h : accepts s ≡ true) where
   high-of : {w : ℕ} (i : ℕ) → x i ≤ 255 → x (i + 1) ≤ 255 → w ≡ wordAt s i → high w ≡ x (i + 1)
   high-of i l k e = ap high e ∙ high-again (x i) (x (i + 1)) l k
 
-  le-255 : (i : ℕ) → i < 64 → getD most i 0 < 256 → x i ≤ 255
+  le-255 : (i : ℕ) → i < recordLength → getD most i 0 < 256 → x i ≤ 255
   le-255 i l k = let m = limit i l in omega arith
 
   transmission : transmissionIn (shifterAt s) ≡ transmissionAt s
@@ -226,7 +226,7 @@ module _ (s : List ℕ) (h : accepts s ≡ true) where
   reception : receptionIn (samplerAt s) ≡ receptionAt s
   reception = shown-sampler .1 .1
 
-  image-same : Same (imageOf (deviceAt s)) (listed x 64)
+  image-same : Same (imageOf (deviceAt s)) (listed x recordLength)
   image-same =
       low-of 0 (le-255 0 (omega arith) (omega arith)) refl ▹ high-of 0 (le-255 0 (omega arith) (omega arith)) (le-255 1 (omega arith) (omega arith)) refl
       ▹ low-of 2 (le-255 2 (omega arith) (omega arith)) refl ▹ high-of 2 (le-255 2 (omega arith) (omega arith)) (le-255 3 (omega arith) (omega arith)) refl

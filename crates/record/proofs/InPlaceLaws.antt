@@ -197,7 +197,7 @@ unfolding recordOf
 advanced s h n = ap advancedOver (sym (image-again s h n)) ∙ advanced-image (deviceAt s) (valid-device s h)
 
 -- two bytes whose limits are small
-pub sum-fits : (s : List ℕ) → accepts s ≡ true → (i j : ℕ) → i < 64 → j < 64 → getD most i 0 + getD most j 0 < 256 → byteAt s i + byteAt s j < 256
+pub sum-fits : (s : List ℕ) → accepts s ≡ true → (i j : ℕ) → i < recordLength → j < recordLength → getD most i 0 + getD most j 0 < 256 → byteAt s i + byteAt s j < 256
 sum-fits s h i j hi hj k = let a = limit s h i hi in let b = limit s h j hj in omega arith
 
 -- a counter that gives no tick

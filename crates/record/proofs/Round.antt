@@ -27,7 +27,7 @@ record-lifted : (d : Device) → Valid d → deviceAt (recordOf d) ≡ d
 unfolding recordOf
 record-lifted d v = lifted d v
 
-pub record-length : (d : Device) → length (recordOf d) ≡ 64
+pub record-length : (d : Device) → length (recordOf d) ≡ recordLength
 unfolding recordOf
 record-length d = refl
 
@@ -64,19 +64,19 @@ record-decode s d h =
 pub decode-valid : (s : List ℕ) (d : Device) → decodeOf s ≡ Accepted d → Valid d
 decode-valid s d h = let q = accepted-source s d h in subst Valid (q .device) (valid-device s (q .tested))
 
-pub decode-length : (s : List ℕ) (d : Device) → decodeOf s ≡ Accepted d → length s ≡ 64
+pub decode-length : (s : List ℕ) (d : Device) → decodeOf s ≡ Accepted d → length s ≡ recordLength
 decode-length s d h = ap length (sym (record-decode s d h)) ∙ record-length d
 
 pub one-device : (d e : Device) → Valid d → Valid e → recordOf d ≡ recordOf e → d ≡ e
 one-device d e v w h = sym (record-lifted d v) ∙ ap deviceAt h ∙ record-lifted e w
 
-pub stored : (d : Device) (s : List ℕ) → length s ≡ 64 → storedOver d s ≡ recordOf d
+pub stored : (d : Device) (s : List ℕ) → length s ≡ recordLength → storedOver d s ≡ recordOf d
 unfolding storedOver
-stored d s h = sym (pick-true _ _ _ _ (eq-eqb (length s) 64 h) refl)
+stored d s h = sym (pick-true _ _ _ _ (eq-eqb (length s) recordLength h) refl)
 
-pub not-stored : (d : Device) (s : List ℕ) → (length s ≡ 64 → ⊥) → storedOver d s ≡ s
+pub not-stored : (d : Device) (s : List ℕ) → (length s ≡ recordLength → ⊥) → storedOver d s ≡ s
 unfolding storedOver
-not-stored d s h = sym (pick-false _ _ _ _ (ne-eqb (length s) 64 h) refl)
+not-stored d s h = sym (pick-false _ _ _ _ (ne-eqb (length s) recordLength h) refl)
 
 -- accepted or refused, as a case
 absurd-case : (d : Device) → _≡_ {A = Decoded} Refused (Accepted d) → ⊥
@@ -98,7 +98,7 @@ suc-at [] i h = absurd (omega arith)
 suc-at (m ∷ ms) zero h = refl
 suc-at (m ∷ ms) (suc i) h = suc-at ms i (omega arith)
 
-pub bytes-in-range : (s : List ℕ) (d : Device) → decodeOf s ≡ Accepted d → (i : ℕ) → i < 64 → getD s i 0 < getD limits i 0
+pub bytes-in-range : (s : List ℕ) (d : Device) → decodeOf s ≡ Accepted d → (i : ℕ) → i < recordLength → getD s i 0 < getD limits i 0
 bytes-in-range s d h i l =
     let m = limit s (accepted-source s d h .tested) i l in
     let e = suc-at most i l in

@@ -6,17 +6,17 @@ use lib.ListN.{length, drop}
 use mathlib.Core.Bool.{Bool}
 use Rattle.choice.specs.Pick.{pick}
 use Rattle.choice.proofs.Picks.{pick-self}
-use Rattle.record.specs.Layout.{most}
+use Rattle.record.specs.Layout.{recordLength, most}
 use Rattle.record.specs.Accepts.{isWithin}
 use Rattle.record.proofs.ListLaws.{within-on, within-end}
 use Rattle.record.proofs.limits.within.Statement.{statement}
 use Rattle.record.proofs.limits.within.Tie as tie
 
 abbrev Inv-loop : tie.InvT-loop
-Inv-loop s ms low₀ i₀ low i = (i ≤ 64) × (pick low (isWithin (drop i s) (drop i ms)) false ≡ isWithin s ms)
+Inv-loop s ms low₀ i₀ low i = (i ≤ recordLength) × (pick low (isWithin (drop i s) (drop i ms)) false ≡ isWithin s ms)
 
 abbrev μ-loop : tie.MeasureT-loop
-μ-loop s ms low₀ i₀ low i = 64 - i
+μ-loop s ms low₀ i₀ low i = recordLength - i
 
 loop-holds : tie.Need-loop-holds Inv-loop μ-loop
 loop-holds c = (omega arith, refl)
@@ -45,7 +45,7 @@ returns : tie.Need-returns Inv-loop μ-loop
 returns c =
     let at = c .before in
     let s = at .before .args .s .now in
-    let end : at .loop .i ≡ 64 = omega (arith, at .loop .inv .0) in
+    let end : at .loop .i ≡ recordLength = omega (arith, at .loop .inv .0) in
     let full : at .loop .i ≡ length s = omega arith in
     sym (pick-self (at .loop .low))
     ∙ sym (ap (λ (b : Bool). pick (at .loop .low) b false) (within-end s most (at .loop .i) full end))
