@@ -1,18 +1,15 @@
 -- The test on bytes accepts exactly the images of valid devices: that of a valid device is accepted, and accepted bytes say a valid device,
 -- whose image they are. Assumes nothing.
-use Prim.Native.Nat.{ℕ, zero, suc, _+_, _*_, _%_, _/_, _<_, _≤_}
-use mathlib.Core.Bool.{Bool, true, false, not, _&&_}
+use Prim.Native.Nat.{ℕ, _+_, _<_, _≤_}
+use mathlib.Core.Bool.{Bool, true, false, not}
 use mathlib.Core.List.{List, [], _∷_}
 use mathlib.Core.Path.{_≡_, refl, sym, ap, ap₂, _∙_}
 use native.Mathlib.Omega.{arith}
-use lib.Dec.{eqb, leb, lit≤}
-use lib.ListN.{length, getD}
-use borrow.Author.Tests.{eqb-true, leb-true, eq-eqb, le-leb, not-true, not-false}
-use Rattle.choice.specs.Bit.{isSet}
+use lib.Dec.{eqb, lit≤}
+use borrow.Author.Tests.{eq-eqb, le-leb}
 use Rattle.choice.specs.Pick.{pick}
 use Rattle.choice.proofs.Digits.{digit-le}
-use Rattle.choice.proofs.Picks.{both, split, clash}
-use Rattle.frame.specs.Format.{samples, wordBits, stopBits, lastBit}
+use Rattle.frame.specs.Format.{samples, wordBits, stopBits}
 use Rattle.frame.specs.declared.format.Size.{Size}
 use Rattle.frame.specs.declared.format.Size.the-variants.{Five, Six, Seven, Eight, Nine}
 use Rattle.frame.specs.declared.format.Parity.{Parity}
@@ -20,12 +17,10 @@ use Rattle.frame.specs.declared.format.Parity.the-variants.{Off, Even, Odd}
 use Rattle.frame.specs.declared.format.Format.{Format}
 use Rattle.frame.proofs.FormatLaws.{word-bits-range, stop-bits-range, samples-half, first-vote-range}
 use Rattle.usart.specs.Settings.{codeOf, sizeOf, isKnown, upmOf}
-use Rattle.usart.specs.Sender.{isVacant, isResting}
+use Rattle.usart.specs.Sender.{isResting}
 use Rattle.usart.specs.Sampler.{isReceiving}
-use Rattle.usart.specs.Queue.{oldestOf}
-use Rattle.usart.specs.Valid.{ValidShifter, ValidSampler, isInShift, Valid as ValidUsart}
+use Rattle.usart.specs.Valid.{ValidShifter, ValidSampler}
 use Rattle.usart.proofs.SettingsLaws.{code-lt, upm-lt}
-use Rattle.usart.specs.declared.baud.Baud.{Baud}
 use Rattle.usart.specs.declared.sender.ShiftRegister.{ShiftRegister}
 use Rattle.usart.specs.declared.sender.ShiftRegister.the-variants.{Resting, Sending}
 use Rattle.usart.specs.declared.sampler.Reception.{Reception}
@@ -38,24 +33,23 @@ use Rattle.spi.specs.Control.{half, divisorNumber}
 use Rattle.spi.specs.declared.control.Control.{Control as SpiControl}
 use Rattle.spi.specs.declared.flag.Flag.{Flag}
 use Rattle.spi.specs.declared.flag.Flag.the-variants.{Clear, Set, Armed}
-use Rattle.spi.specs.declared.unit.Spi.{Spi}
 use Rattle.spi.proofs.DivisorLaws.{half-of}
 use Rattle.device.specs.Valid.{Valid}
 use Rattle.device.specs.declared.unit.Device.{Device}
-use Rattle.record.specs.Layout.{most, recordLength, layoutByte, layoutNumber, ucsr0aByte, ucsr0bByte, ucsr0cByte, byteAt, wordAt, setAt, low, high}
-use Rattle.record.specs.Layout.{sendingByte, receivingByte, lastByte, fullByte, dataByte, heldByte, lostByte, oldestByte, nextByte}
-use Rattle.record.specs.Codes.{sizeCode, marksOf, flagCode, flagOf}
-use Rattle.record.specs.Parts.{bufferData, transmissionIn, rememberedIn, receptionIn, heldCount, secondIn, senderParts, receiverParts, bufferFrom, shifterFrom, samplerFrom, placesFrom}
+use Rattle.record.specs.Layout.{most, byteAt, wordAt, setAt, low, high}
+use Rattle.record.specs.Layout.{sendingByte, receivingByte, lastByte, fullByte, dataByte, heldByte, lostByte}
+use Rattle.record.specs.Codes.{flagCode}
+use Rattle.record.specs.Parts.{transmissionIn, rememberedIn, receptionIn, heldCount, senderParts, receiverParts}
 use Rattle.record.specs.Image.{bit, ucsr0a, ucsr0b, ucsr0c, imageOf}
-use Rattle.record.specs.Lift.{baudAt, formatAt, formatOf, controlAt, transmissionAt, receptionAt, frameAt, spiAt, deviceAt}
-use Rattle.record.specs.Accepts.{isWithin, settingsFit, counterFits, bufferFits, shifterFits, samplerFits, placesFit, enabledFits, usartFits, spiFits, accepts}
-use Rattle.record.proofs.ListLaws.{and-both, and-pair}
-use Rattle.record.proofs.RegisterLaws.{none-else, code-again, marks-lt, a-again, b-again, c-again}
+use Rattle.record.specs.Lift.{baudAt, formatAt, controlAt, transmissionAt, receptionAt}
+use Rattle.record.specs.Accepts.{isWithin, settingsFit, counterFits, bufferFits, shifterFits, samplerFits, enabledFits, usartFits, spiFits, accepts}
+use Rattle.record.proofs.ListLaws.{and-pair}
+use Rattle.record.proofs.RegisterLaws.{none-else, code-again, marks-lt}
 use Rattle.record.proofs.CodeLaws.{flag-bit}
-use Rattle.record.proofs.LiftLaws.{data-lt, sent-lt, received-lt, oldest-lt, second-lt, baud-law, format-law, control-law, data-law, transmission-law, reception-law, spi-law}
-use Rattle.record.proofs.TestLaws.{counter-fits, counter-valid, buffer-fits, buffer-valid, buffer-shown, shifter-fits, shifter-valid, shifter-shown, sampler-fits, sampler-valid, sampler-shown}
-use Rattle.record.proofs.QueueLaws.{places-fit, places-valid, PlacesShown, places-shown, enabled-fits, enabled-valid}
-use Rattle.record.proofs.SpiTestLaws.{spi-fits, spi-valid}
+use Rattle.record.proofs.LiftLaws.{data-lt, sent-lt, received-lt, baud-law, format-law, control-law, data-law, transmission-law, reception-law, spi-law}
+use Rattle.record.proofs.TestLaws.{counter-fits, buffer-fits, shifter-fits, sampler-fits}
+use Rattle.record.proofs.QueueLaws.{places-fit, enabled-fits}
+use Rattle.record.proofs.SpiTestLaws.{spi-fits}
 
 -- The image of a valid device is accepted
 

@@ -7,26 +7,21 @@ use native.Mathlib.Omega.{arith}
 use lib.Dec.{eqb, leb}
 use lib.ListN.{length, getD}
 use borrow.Author.Tests.{eqb-true, leb-true, not-true}
-use Rattle.choice.specs.Bit.{isSet}
 use Rattle.choice.specs.Pick.{pick}
-use Rattle.choice.proofs.Picks.{both, clash}
+use Rattle.choice.proofs.Picks.{both}
 use Rattle.usart.specs.Settings.{sizeOf, isKnown}
 use Rattle.usart.specs.Sender.{isVacant, isResting}
 use Rattle.usart.specs.Sampler.{isReceiving}
-use Rattle.usart.specs.Queue.{oldestOf}
-use Rattle.usart.specs.Receiver.{stopped}
 use Rattle.usart.specs.Valid.{Valid as ValidUsart}
 use Rattle.usart.specs.declared.sender.Transmission.{Transmission}
 use Rattle.usart.specs.declared.sampler.Reception.{Reception}
-use Rattle.usart.specs.declared.queue.Places.{Places}
 use Rattle.device.specs.Valid.{Valid}
-use Rattle.device.specs.declared.unit.Device.{Device}
 use Rattle.record.specs.Layout.{most, recordLength, layoutByte, layoutNumber, ucsr0aByte, ucsr0bByte, ucsr0cByte, byteAt, wordAt, setAt, low, high}
 use Rattle.record.specs.Layout.{sendingByte, receivingByte, lastByte, fullByte, dataByte, heldByte, lostByte, oldestByte, nextByte}
-use Rattle.record.specs.Codes.{sizeCode, marksOf, flagCode, flagOf}
-use Rattle.record.specs.Parts.{bufferData, transmissionIn, rememberedIn, receptionIn, heldCount, secondIn, bufferFrom, shifterFrom, samplerFrom, placesFrom}
-use Rattle.record.specs.Image.{bit, ucsr0a, ucsr0b, ucsr0c, imageOf}
-use Rattle.record.specs.Lift.{baudAt, formatAt, controlAt, bufferAt, transmissionAt, shifterAt, receptionAt, samplerAt, frameAt, placesAt, receiverAt, usartAt, spiAt, deviceAt}
+use Rattle.record.specs.Codes.{sizeCode, flagCode, flagOf}
+use Rattle.record.specs.Parts.{bufferData, transmissionIn, rememberedIn, receptionIn}
+use Rattle.record.specs.Image.{bit, imageOf}
+use Rattle.record.specs.Lift.{baudAt, formatAt, controlAt, bufferAt, transmissionAt, shifterAt, receptionAt, samplerAt, frameAt, placesAt, usartAt, spiAt, deviceAt}
 use Rattle.record.specs.Accepts.{isWithin, settingsFit, counterFits, bufferFits, shifterFits, samplerFits, placesFit, enabledFits, usartFits, spiFits, accepts}
 use Rattle.record.proofs.ListLaws.{and-both}
 use Rattle.record.proofs.RegisterLaws.{a-again, b-again, c-again}

@@ -1,17 +1,14 @@
 -- A record is refused exactly when its length, a field or an unused byte is not as it must be. Assumes nothing.
-use Prim.Native.Nat.{ℕ, zero, suc, _+_, _*_, _/_, _%_, _^_, _<_, _≤_}
+use Prim.Native.Nat.{ℕ, zero, suc, _<_, _≤_}
 use mathlib.Core.Bool.{Bool, true, false, not, _&&_}
 use mathlib.Core.List.{List, [], _∷_}
-use mathlib.Core.Path.{_≡_, refl, sym, ap, ap₂, subst, _∙_}
+use mathlib.Core.Path.{_≡_, refl, sym, ap, ap₂, _∙_}
 use native.Mathlib.Omega.{arith}
-use lib.Dec.{eqb, leb, ltb}
+use lib.Dec.{eqb, leb}
 use lib.ListN.{length, getD}
-use borrow.Author.Tests.{eqb-true, eqb-false, leb-true, leb-false, eq-eqb, ne-eqb, lt-ltb, le-leb, not-true}
+use borrow.Author.Tests.{eqb-true, eqb-false, leb-false, eq-eqb, ne-eqb, lt-ltb, le-leb, not-true}
 use Rattle.choice.specs.Pick.{pick}
 use Rattle.choice.proofs.Picks.{pick-true, pick-false, both, split, clash}
-use Rattle.frame.specs.Format.{dataBits}
-use Rattle.frame.specs.declared.format.Format.{Format}
-use Rattle.usart.specs.Settings.{isKnown, sizeOf}
 use Rattle.usart.specs.Sender.{isResting}
 use Rattle.usart.specs.Sampler.{isReceiving}
 use Rattle.usart.specs.Valid.{ValidBuffer, ValidShifter, ValidSampler}
@@ -19,17 +16,15 @@ use Rattle.usart.specs.declared.sender.Transmission.{Transmission}
 use Rattle.usart.specs.declared.sender.ShiftRegister.the-variants.{Sending}
 use Rattle.usart.specs.declared.sampler.Reception.{Reception}
 use Rattle.usart.specs.declared.sampler.Sampler.the-variants.{Receiving}
-use Rattle.usart.specs.declared.queue.Frame.{Frame}
 use Rattle.device.specs.declared.unit.Device.{Device}
 use Rattle.record.specs.Layout.{recordLength, layoutNumber, layoutByte, ucsr0aByte, ucsr0bByte, ucsr0cByte, fullByte, dataByte, sendingByte}
 use Rattle.record.specs.Layout.{sentWordByte, sentBitByte, sentTicksByte, receivingByte, lastByte, bitByte, samplesByte, firstByte, secondByte}
 use Rattle.record.specs.Layout.{wordByte, heldByte, lostByte, oldestByte, nextByte, most, byteAt, wordAt, setAt}
-use Rattle.record.specs.Codes.{sizeCode}
-use Rattle.record.specs.Parts.{bufferFrom, shifterFrom, samplerFrom, placesFrom, rememberedIn, heldCount}
-use Rattle.record.specs.Lift.{baudAt, formatAt, controlAt, transmissionAt, shifterAt, receptionAt, samplerAt, frameAt, placesAt, receiverAt, usartAt, spiAt, deviceAt}
-use Rattle.record.specs.Accepts.{isWithin, settingsFit, counterFits, bufferFits, isNoTransmission, shifterFits, isNoReception, samplerFits, placesFit, enabledFits, usartFits, spiFits, accepts, isRecord}
+use Rattle.record.specs.Parts.{bufferFrom, shifterFrom, samplerFrom, rememberedIn}
+use Rattle.record.specs.Lift.{baudAt, formatAt, controlAt, transmissionAt, receptionAt, samplerAt, frameAt, receiverAt, spiAt, deviceAt}
+use Rattle.record.specs.Accepts.{isWithin, settingsFit, counterFits, bufferFits, isNoTransmission, shifterFits, isNoReception, samplerFits, placesFit, enabledFits, usartFits, accepts, isRecord}
 use Rattle.record.specs.Codec.{decodeOf}
-use Rattle.record.specs.Refusing.{SettingsInRange, OthersZero, isUnused, FieldsInRange, NoRecord, wrongLength, outOfRange, unusedByte}
+use Rattle.record.specs.Refusing.{OthersZero, isUnused, FieldsInRange, NoRecord, wrongLength, outOfRange, unusedByte}
 use Rattle.record.specs.declared.codec.Decoded.{Decoded}
 use Rattle.record.specs.declared.codec.Decoded.the-variants.{Accepted, Refused}
 use Rattle.record.proofs.ListLaws.{and-both, and-pair}

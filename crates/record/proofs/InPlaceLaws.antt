@@ -1,18 +1,17 @@
 -- A clock that only counts, in place: what is looked at says whether it does, and the bytes that are stored make the record of the device
 -- after it. Assumes nothing.
-use Prim.Native.Nat.{ℕ, zero, suc, _+_, _-_, _*_, _<_, _≤_}
+use Prim.Native.Nat.{ℕ, _+_, _-_, _<_, _≤_}
 use mathlib.Core.Bool.{Bool, true, false, not}
-use mathlib.Core.List.{List, [], _∷_}
-use mathlib.Core.Path.{_≡_, refl, sym, ap, ap₂, subst, _∙_}
+use mathlib.Core.List.{List}
+use mathlib.Core.Path.{_≡_, refl, sym, ap, _∙_}
 use native.Mathlib.Omega.{arith}
 use lib.Dec.{eqb, ltb}
-use lib.ListN.{length, set, getD}
+use lib.ListN.{length, getD}
 use borrow.Author.Tests.{eqb-true, eqb-false, ltb-true, ltb-false, lt-ltb, le-ltb, not-true, not-false}
-use Rattle.choice.specs.Pick.{pick}
 use Rattle.choice.proofs.Picks.{pick-true, pick-false, split, both}
 use Rattle.frame.specs.Format.{samples, firstVote}
 use Rattle.frame.specs.declared.format.Format.{Format}
-use Rattle.usart.specs.Baud.{ticks, leftOf, baudOf}
+use Rattle.usart.specs.Baud.{ticks, leftOf}
 use Rattle.usart.specs.Sender.{isResting}
 use Rattle.usart.specs.Sampler.{isReceiving}
 use Rattle.usart.specs.Receiver.{stopped}
@@ -33,11 +32,10 @@ use Rattle.device.specs.declared.unit.Device.{Device}
 use Rattle.record.specs.Layout.{recordLength, most, leftByte, byteAt, wordAt, low, high}
 use Rattle.record.specs.Parts.{bufferFrom, transmissionIn, shifterFrom, rememberedIn, receptionIn, samplerFrom}
 use Rattle.record.specs.Image.{bit, imageOf}
-use Rattle.record.specs.Lift.{baudAt, deviceAt}
+use Rattle.record.specs.Lift.{deviceAt}
 use Rattle.record.specs.Accepts.{accepts, isRecord}
 use Rattle.record.specs.Codec.{recordOf}
 use Rattle.record.specs.InPlace.{senderCounts, samplerCounts, receiverCounts, tickedOver, waitedOver, advancedOver, steppedOf, steppedOver}
-use Rattle.record.specs.declared.in_place.Stepped.{Stepped}
 use Rattle.record.specs.declared.in_place.Stepped.the-variants.{Refused, Counted, Due}
 use Rattle.record.proofs.CodeLaws.{word-parts}
 use Rattle.record.proofs.BytesLaws.{limit, valid-device, image-again, Same, done, _▹_, same-lists}

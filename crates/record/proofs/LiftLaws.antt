@@ -1,7 +1,7 @@
 -- A valid device is what the bytes of its image say. Assumes nothing.
 use Prim.Native.Nat.{_^_, _<_}
-use mathlib.Core.Bool.{Bool, true, false}
-use mathlib.Core.Path.{_≡_, refl, ap, ap₂, _∙_}
+use mathlib.Core.Bool.{Bool}
+use mathlib.Core.Path.{_≡_, ap, ap₂, _∙_}
 use native.Mathlib.Omega.{arith}
 use Rattle.frame.specs.Format.{dataBits, wordBits}
 use Rattle.frame.specs.declared.format.Format.{Format}

@@ -1,7 +1,7 @@
 -- Laws of tests on lists, and of a copy over a list as long. Assumes nothing.
 use Prim.Native.Nat.{ℕ, _+_, _<_, suc}
 use mathlib.Core.Bool.{Bool, true, false, not, _&&_}
-use mathlib.Core.List.{List, [], _∷_, _++_, append-nil}
+use mathlib.Core.List.{List, _++_, append-nil}
 use mathlib.Core.Path.{_≡_, refl, sym, ap, ap₂, _∙_}
 use native.Mathlib.Omega.{arith}
 use lib.Dec.{eqb, leb}

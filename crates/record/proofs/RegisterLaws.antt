@@ -11,7 +11,6 @@ use Rattle.choice.specs.Bit.{isSet}
 use Rattle.choice.specs.Pick.{pick, digit}
 use Rattle.choice.proofs.Digits.{digit-le, digit-is, digit-odd}
 use Rattle.choice.proofs.Picks.{pick-true, both, clash}
-use Rattle.frame.specs.declared.format.Size.{Size}
 use Rattle.frame.specs.declared.format.Format.{Format}
 use Rattle.usart.specs.Settings.{codeOf, sizeOf, isKnown, upmOf, parityOf}
 use Rattle.usart.specs.declared.settings.Coded.{Coded}

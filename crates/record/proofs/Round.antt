@@ -12,7 +12,7 @@ use Rattle.choice.specs.Pick.{pick}
 use Rattle.choice.proofs.Picks.{pick-true, pick-false, both}
 use Rattle.device.specs.Valid.{Valid}
 use Rattle.device.specs.declared.unit.Device.{Device}
-use Rattle.record.specs.Layout.{recordLength, most, limits, byteAt}
+use Rattle.record.specs.Layout.{recordLength, most, limits}
 use Rattle.record.specs.Image.{imageOf}
 use Rattle.record.specs.Lift.{deviceAt}
 use Rattle.record.specs.Accepts.{accepts, isRecord}

@@ -5,12 +5,12 @@ use mathlib.Core.Path.{_≡_, refl, sym, ap, _∙_}
 use native.Mathlib.Omega.{arith}
 use lib.Dec.{eqb, leb}
 use borrow.Author.Tests.{eqb-true, eqb-false, leb-true, eq-eqb, ne-eqb, le-leb}
-use Rattle.choice.specs.Pick.{pick, digit}
+use Rattle.choice.specs.Pick.{digit}
 use Rattle.choice.proofs.Digits.{digit-is}
-use Rattle.choice.proofs.Picks.{split, clash}
+use Rattle.choice.proofs.Picks.{split}
 use Rattle.spi.specs.Control.{isEnabled, isMaster, modeOf, half}
 use Rattle.spi.specs.Unit.{sckOf}
-use Rattle.spi.specs.Valid.{ValidTransfer, isFirstOut, firstBit, ValidPins, Valid}
+use Rattle.spi.specs.Valid.{isFirstOut, firstBit, Valid}
 use Rattle.spi.specs.declared.unit.Spi.{Spi}
 use Rattle.record.specs.Accepts.{outFits, masterFits, slaveFits, spiFits}
 use Rattle.record.proofs.ListLaws.{and-both, and-pair}

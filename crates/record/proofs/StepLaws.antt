@@ -13,7 +13,6 @@ use Rattle.record.specs.Accepts.{isRecord}
 use Rattle.record.specs.Codec.{recordOf, decodeOf}
 use Rattle.record.specs.InPlace.{steppedOf, steppedOver}
 use Rattle.record.specs.Report.{reportOf}
-use Rattle.record.specs.declared.codec.Decoded.{Decoded}
 use Rattle.record.specs.declared.codec.Decoded.the-variants.{Accepted, Refused as NoDevice}
 use Rattle.record.specs.declared.in_place.Stepped.{Stepped}
 use Rattle.record.specs.declared.in_place.Stepped.the-variants.{Refused, Counted, Due}

@@ -1,21 +1,19 @@
 -- The tests of `accepts`, part by part: each holds of what a valid part's bytes say, and bytes of which it holds say a valid part, whose
 -- bytes they are. Assumes nothing.
-use Prim.Native.Nat.{ℕ, zero, suc, _+_, _-_, _*_, _%_, _^_, _<_, _≤_}
+use Prim.Native.Nat.{ℕ, _+_, _-_, _^_, _<_, _≤_}
 use mathlib.Core.Bool.{Bool, true, false, not, _&&_}
-use mathlib.Core.Path.{_≡_, refl, sym, ap, _∙_}
+use mathlib.Core.Path.{_≡_, refl, sym}
 use native.Mathlib.Omega.{arith}
 use lib.Dec.{eqb, ltb, leb}
-use borrow.Author.Tests.{eqb-true, eqb-false, ltb-true, leb-true, eq-eqb, ne-eqb, lt-ltb, le-leb, not-true}
-use Rattle.choice.specs.Pick.{pick, digit}
-use Rattle.choice.proofs.Digits.{digit-is}
-use Rattle.choice.proofs.Picks.{pick-ind, both, split, clash}
-use Rattle.frame.specs.Format.{samples, firstVote, dataBits, wordBits, lastBit}
+use borrow.Author.Tests.{eqb-true, ltb-true, leb-true, eq-eqb, ne-eqb, lt-ltb, le-leb, not-true}
+use Rattle.choice.specs.Pick.{pick}
+use Rattle.choice.proofs.Picks.{pick-ind, both, clash}
+use Rattle.frame.specs.Format.{samples, firstVote, wordBits, lastBit}
 use Rattle.frame.specs.Word.{wordOf}
 use Rattle.frame.specs.declared.format.Format.{Format}
 use Rattle.usart.specs.Sender.{isVacant, isResting}
 use Rattle.usart.specs.Sampler.{isReceiving}
-use Rattle.usart.specs.Receiver.{stopped}
-use Rattle.usart.specs.Valid.{ValidBuffer, ValidTransmission, ValidShifter, votedBits, ValidReception, ValidSampler}
+use Rattle.usart.specs.Valid.{ValidBuffer, ValidShifter, ValidReception, ValidSampler}
 use Rattle.usart.specs.declared.baud.Baud.{Baud}
 use Rattle.usart.specs.declared.sender.Buffer.{Buffer}
 use Rattle.usart.specs.declared.sender.Buffer.the-variants.{Vacant, Full}
@@ -25,11 +23,8 @@ use Rattle.usart.specs.declared.sender.ShiftRegister.the-variants.{Resting, Sen
 use Rattle.usart.specs.declared.sampler.Reception.{Reception}
 use Rattle.usart.specs.declared.sampler.Sampler.{Sampler}
 use Rattle.usart.specs.declared.sampler.Sampler.the-variants.{Idle, Receiving}
-use Rattle.usart.specs.declared.queue.Places.{Places}
-use Rattle.usart.specs.declared.queue.Places.the-variants.{Empty, One, Two}
-use Rattle.usart.specs.declared.receiver.Receiver.{Receiver}
-use Rattle.record.specs.Parts.{bufferData, bufferFrom, transmissionIn, shifterFrom, rememberedIn, receptionIn, samplerFrom, heldCount}
-use Rattle.record.specs.Accepts.{counterFits, bufferFits, transmissionFits, isNoTransmission, shifterFits, receptionWithin, isUndecided, firstFits, secondFits, restFits, receptionFits, isNoReception, samplerFits, placesFit, enabledFits}
+use Rattle.record.specs.Parts.{bufferData, bufferFrom, transmissionIn, shifterFrom, rememberedIn, receptionIn, samplerFrom}
+use Rattle.record.specs.Accepts.{counterFits, bufferFits, isNoTransmission, shifterFits, receptionWithin, isUndecided, firstFits, secondFits, restFits, receptionFits, isNoReception, samplerFits}
 use Rattle.record.proofs.ListLaws.{and-both, and-pair}
 
 -- tests joined by &&

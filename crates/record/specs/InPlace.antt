@@ -12,7 +12,7 @@ use Rattle.usart.specs.Counting.{bitQuiet}
 use Rattle.usart.specs.Baud.{ticks}
 use Rattle.device.specs.Unit.{outputOf}
 use Rattle.device.specs.Counting.{isCounting, countedDevice}
-use Rattle.record.specs.Layout.{ubrrByte, leftByte, fullByte, sendingByte, sentTicksByte, receivingByte, samplesByte, byteAt, wordAt, setAt, low, high}
+use Rattle.record.specs.Layout.{ubrrByte, leftByte, sendingByte, sentTicksByte, receivingByte, samplesByte, byteAt, wordAt, low, high}
 use Rattle.record.specs.Lift.{baudAt, deviceAt}
 use Rattle.record.specs.Accepts.{isRecord}
 use Rattle.record.specs.Codec.{recordOf}

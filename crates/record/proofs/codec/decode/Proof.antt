@@ -1,9 +1,7 @@
 use Rattle.choice.proofs.Picks.{picks}
 use Rattle.record.proofs.ListLaws.{record-length}
 use Rattle.record.specs.Codec.{decodeOf}
-use Rattle.record.specs.declared.codec.Decoded.the-variants.{Accepted}
 use borrow.Author.Needs.{needs}
-use mathlib.Core.Path.{ap, _∙_}
 use Rattle.record.proofs.codec.decode.Statement.{statement}
 use Rattle.record.proofs.codec.decode.Tie as tie
 
