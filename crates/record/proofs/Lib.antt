@@ -6,7 +6,7 @@ pub mod LiftLaws
 pub mod TestLaws
 pub mod QueueLaws
 pub mod SpiTestLaws
-pub mod AcceptLaws
+pub mod ImageLaws
 pub mod BytesLaws
 pub mod InPlaceLaws
 pub mod ReportLaws

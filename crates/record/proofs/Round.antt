@@ -20,7 +20,7 @@ use Rattle.record.specs.Codec.{recordOf, decodeOf, storedOver}
 use Rattle.record.specs.declared.codec.Decoded.{Decoded}
 use Rattle.record.specs.declared.codec.Decoded.the-variants.{Accepted, Refused}
 use Rattle.record.proofs.LiftLaws.{lifted}
-use Rattle.record.proofs.AcceptLaws.{image-accepted}
+use Rattle.record.proofs.ImageLaws.{image-accepted}
 use Rattle.record.proofs.BytesLaws.{limit, valid-device, image-again}
 
 record-lifted : (d : Device) → Valid d → deviceAt (recordOf d) ≡ d

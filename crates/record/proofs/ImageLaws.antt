@@ -1,5 +1,4 @@
--- The test on bytes accepts exactly the images of valid devices: that of a valid device is accepted, and accepted bytes say a valid device,
--- whose image they are. Assumes nothing.
+-- The image of a valid device is accepted. Assumes nothing.
 use Prim.Native.Nat.{ℕ, _+_, _<_, _≤_}
 use mathlib.Core.Bool.{Bool, true, false, not}
 use mathlib.Core.List.{List, [], _∷_}
