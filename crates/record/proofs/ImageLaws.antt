@@ -50,8 +50,6 @@ use Rattle.record.proofs.TestLaws.{counter-fits, buffer-fits, shifter-f
 use Rattle.record.proofs.QueueLaws.{places-fit, enabled-fits}
 use Rattle.record.proofs.SpiTestLaws.{spi-fits}
 
--- The image of a valid device is accepted
-
 -- a list within another, number for number
 infixr 20 _▹_
 data Within : List ℕ → List ℕ → Type 0 where

@@ -6,6 +6,7 @@ mod in_place;
 mod layout;
 mod limits;
 mod parts;
+mod reception_tests;
 mod report;
 mod spi_lift;
 mod spi_tests;

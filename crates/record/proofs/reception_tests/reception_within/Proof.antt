@@ -1,7 +1,7 @@
 use Rattle.record.proofs.CodeLaws.{limit-top}
 use borrow.Author.Needs.{needs}
-use Rattle.record.proofs.usart_tests.reception_within.Statement.{statement}
-use Rattle.record.proofs.usart_tests.reception_within.Tie as tie
+use Rattle.record.proofs.reception_tests.reception_within.Statement.{statement}
+use Rattle.record.proofs.reception_tests.reception_within.Tie as tie
 
 returns : tie.Need-returns
 returns c = rw (c .before .before .before .before .before .top .ensures .0, c .before .before .before .before .word-bits .ensures .0, c .before .before .before .samples .ensures .0, limit-top)

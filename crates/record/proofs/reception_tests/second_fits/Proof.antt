@@ -2,8 +2,8 @@ use mathlib.Core.Path.{refl}
 use Rattle.choice.proofs.Picks.{pick-true, picks}
 use Rattle.record.specs.Accepts.{secondFits}
 use borrow.Author.Needs.{needs}
-use Rattle.record.proofs.usart_tests.second_fits.Statement.{statement}
-use Rattle.record.proofs.usart_tests.second_fits.Tie as tie
+use Rattle.record.proofs.reception_tests.second_fits.Statement.{statement}
+use Rattle.record.proofs.reception_tests.second_fits.Tie as tie
 
 returns : tie.Need-returns
 unfolding secondFits

@@ -1,8 +1,8 @@
 use Rattle.record.proofs.CodeLaws.{missing-before, missing-after}
 use borrow.Author.Needs.{needs}
 use native.Mathlib.Omega.{arith}
-use Rattle.record.proofs.usart_tests.missing.Statement.{statement}
-use Rattle.record.proofs.usart_tests.missing.Tie as tie
+use Rattle.record.proofs.reception_tests.missing.Statement.{statement}
+use Rattle.record.proofs.reception_tests.missing.Tie as tie
 
 returns : tie.Need-returns
 returns c = (rw (← c .before .before .before .before .word-bits .ensures .0, ← c .before .before .before .first-vote .ensures .0) (missing-before _ _ _ _ (c .before .if1 .taken) (c .less .ensures)), omega (arith, c .less .ensures, c .before .before .before .before .word-bits .ensures .1))

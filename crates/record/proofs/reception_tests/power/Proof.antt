@@ -1,7 +1,7 @@
 use Rattle.record.proofs.CodeLaws.{shifted-one}
 use borrow.Author.Needs.{needs}
-use Rattle.record.proofs.usart_tests.power.Statement.{statement}
-use Rattle.record.proofs.usart_tests.power.Tie as tie
+use Rattle.record.proofs.reception_tests.power.Statement.{statement}
+use Rattle.record.proofs.reception_tests.power.Tie as tie
 
 returns : tie.Need-returns
 returns c = shifted-one (c .args .n) (c .pre)

@@ -2,8 +2,8 @@ use mathlib.Core.Path.{refl}
 use Rattle.choice.proofs.Picks.{pick-true, picks}
 use Rattle.record.specs.Accepts.{firstFits}
 use borrow.Author.Needs.{needs}
-use Rattle.record.proofs.usart_tests.first_fits.Statement.{statement}
-use Rattle.record.proofs.usart_tests.first_fits.Tie as tie
+use Rattle.record.proofs.reception_tests.first_fits.Statement.{statement}
+use Rattle.record.proofs.reception_tests.first_fits.Tie as tie
 
 returns : tie.Need-returns
 unfolding firstFits

@@ -1,6 +1,6 @@
 use borrow.Author.Needs.{needs}
-use Rattle.record.proofs.usart_tests.rest_fits.Statement.{statement}
-use Rattle.record.proofs.usart_tests.rest_fits.Tie as tie
+use Rattle.record.proofs.reception_tests.rest_fits.Statement.{statement}
+use Rattle.record.proofs.reception_tests.rest_fits.Tie as tie
 
 returns : tie.Need-returns
 returns c = rw (c .before .power .ensures .0, c .before .before .missing .ensures .0)

@@ -3,8 +3,8 @@ use borrow.Author.Tests.{eq-eqb, ne-eqb}
 use Rattle.choice.proofs.Picks.{pick-true, pick-false}
 use Rattle.record.specs.Accepts.{isUndecided}
 use borrow.Author.Needs.{needs}
-use Rattle.record.proofs.usart_tests.undecided.Statement.{statement}
-use Rattle.record.proofs.usart_tests.undecided.Tie as tie
+use Rattle.record.proofs.reception_tests.undecided.Statement.{statement}
+use Rattle.record.proofs.reception_tests.undecided.Tie as tie
 
 returns : tie.Need-returns
 unfolding isUndecided

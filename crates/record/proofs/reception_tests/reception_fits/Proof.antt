@@ -1,8 +1,8 @@
 use Rattle.record.proofs.ListLaws.{holds, fails}
 use Rattle.record.specs.Accepts.{receptionFits}
 use borrow.Author.Needs.{needs}
-use Rattle.record.proofs.usart_tests.reception_fits.Statement.{statement}
-use Rattle.record.proofs.usart_tests.reception_fits.Tie as tie
+use Rattle.record.proofs.reception_tests.reception_fits.Statement.{statement}
+use Rattle.record.proofs.reception_tests.reception_fits.Tie as tie
 
 returns : tie.Need-returns
 unfolding receptionFits
