@@ -24,9 +24,10 @@ test:
 compare:
 	@bash tests/host/compare.sh $(if $(SEED),--seed $(SEED)) $(if $(SCALE),--scale $(SCALE))
 
-# Time of a clock against the independent model's.
+# Time of a clock against the independent model's, then the instructions of a call, where there is valgrind.
 bench:
 	@bash bench/run.sh
+	@bash bench/instructions.sh
 
 # The negation of a statement, proved of each wrong program that refutations/ has: make refute NAME=wrong_senders for one.
 refute:

@@ -1,6 +1,7 @@
-//! `make bench`: ns a clock of `warpmagpie_run` against the independent model of tests/host/model, which passes one clock at a time. Both do
-//! the same work on the same levels in one run of one program, and must come to the same outputs and records. The ratio is what counts:
-//! times vary with the machine.
+//! `make bench`: times of the archive against the independent model of tests/host/model, which passes one clock at a
+//! time, keeps its device by reference and pays for no record. Both do the same work on the same levels in one run of
+//! one program, and must come to the same outputs, requests and records. The ratio is what counts: times vary with the
+//! machine.
 
 #[allow(dead_code)]
 #[path = "../tests/host/compare/archive.rs"]
@@ -11,28 +12,83 @@ mod model;
 
 use model::{address, level, record, spi, usart, Device};
 use std::hint::black_box;
+use std::slice::{from_mut, from_ref};
 use std::time::Instant;
 
-/// Rounds of each row, unless an argument says otherwise. The fastest counts, for either side: what else the machine does can only slow a
-/// round down.
+/// Rounds of each row, unless an argument says otherwise. The fastest counts, for either side: what else the machine
+/// does can only slow a round down.
 const ROUNDS: usize = 400;
 
+/// Ratios to reach: of runs, of turns on an idle device at UBRR 51, and of turns with traffic or at UBRR 0.
 const RUN_LIMIT: f64 = 1.2;
-const SINGLE_LIMIT: f64 = 20.0;
+const IDLE_LIMIT: f64 = 8.0;
+const BUSY_LIMIT: f64 = 11.0;
 
 const IDLE: u8 = level::RXD | level::SS;
 const TICKS: usize = 16;
 const FRAME_BITS: usize = 10;
 const BYTE: u8 = 0x65;
 const SLOW: u8 = 51;
+/// Clocks of a frame at `SLOW`, and those of a byte that an SPI master transfers at divisor 2.
+const FRAME_CLOCKS: usize = 8320;
+const TRANSFER_CLOCKS: usize = 16;
+/// Turns in a round: whole frames at either rate.
+const TURNS: usize = 4 * FRAME_CLOCKS;
 
-/// Devices that are made ready alike, untimed, and then run over the same levels.
-struct Row {
-    name: &'static str,
-    start: Device,
+type Record = [u8; record::LENGTH];
+
+/// What devices do, each over the levels of its row.
+enum Work {
+    /// One run.
+    Run,
+    /// Turns: a run of one clock and a report after it, as a rig that has the processor core makes them.
+    Turns,
+    /// The runs of the turns by themselves.
+    SingleRuns,
+    /// The reports of the turns by themselves.
+    Reports,
+}
+
+/// What is done to a device before its work, untimed, and the levels for it.
+struct Traffic {
     ready: fn(&mut Device),
     levels: Vec<u8>,
+}
+
+/// Devices that start alike and do the same in each round.
+struct Row {
+    name: &'static str,
+    limit: Option<f64>,
+    work: Work,
+    start: Device,
+    traffic: Traffic,
     devices: usize,
+}
+
+impl Row {
+    fn of_runs(name: &'static str, start: Device, traffic: Traffic, devices: usize) -> Row {
+        let (work, limit) = (Work::Run, Some(RUN_LIMIT));
+        Row {
+            name,
+            limit,
+            work,
+            start,
+            traffic,
+            devices,
+        }
+    }
+
+    fn of_turns(name: &'static str, limit: Option<f64>, work: Work, start: Device, traffic: Traffic) -> Row {
+        let devices = TURNS / traffic.levels.len();
+        Row {
+            name,
+            limit,
+            work,
+            start,
+            traffic,
+            devices,
+        }
+    }
 }
 
 fn write(device: &mut Device, address: u16, value: u8) {
@@ -50,17 +106,41 @@ fn serial(ubrr: u8) -> Device {
     device
 }
 
-/// A master at divisor 2 that keeps SS as an output.
-fn master() -> Device {
-    let mut device = Device::reset();
+/// The device with its SPI enabled as a master that keeps SS as an output.
+fn as_master(mut device: Device) -> Device {
     write(&mut device, address::DDRB, spi::DDRB_SS | spi::DDRB_MOSI | spi::DDRB_SCK);
-    write(&mut device, address::SPSR, spi::SPI2X);
     write(&mut device, address::SPCR, spi::SPE | spi::MSTR);
     device
 }
 
-fn idle(clocks: usize) -> Vec<u8> {
-    vec![IDLE; clocks]
+/// A master at divisor 2.
+fn fast_master() -> Device {
+    let mut device = as_master(Device::reset());
+    write(&mut device, address::SPSR, spi::SPI2X);
+    device
+}
+
+fn idle() -> Traffic {
+    Traffic {
+        ready: |_| {},
+        levels: vec![IDLE; FRAME_CLOCKS],
+    }
+}
+
+/// A frame each way.
+fn full_duplex(ubrr: u8) -> Traffic {
+    Traffic {
+        ready: send,
+        levels: frame(ubrr),
+    }
+}
+
+/// A byte that a master transfers at divisor 2.
+fn transfers() -> Traffic {
+    Traffic {
+        ready: transfer,
+        levels: vec![IDLE; TRANSFER_CLOCKS],
+    }
 }
 
 /// One frame on RxD: start bit, `BYTE`, stop bit.
@@ -70,8 +150,6 @@ fn frame(ubrr: u8) -> Vec<u8> {
     let level = |clock: usize| level::SS | (bits >> (clock / bit_clocks) & 1) as u8 * level::RXD;
     (0..FRAME_BITS * bit_clocks).map(level).collect()
 }
-
-fn nothing(_: &mut Device) {}
 
 /// Takes what came in, and gives the sender a byte.
 fn send(device: &mut Device) {
@@ -85,10 +163,45 @@ fn transfer(device: &mut Device) {
     write(device, address::SPDR, BYTE);
 }
 
+/// What a device answered, a byte for each level; zeros where it was not asked.
+#[derive(Clone, PartialEq)]
+struct Seen {
+    outputs: Vec<u8>,
+    requests: Vec<u8>,
+}
+
+fn archive_run(bytes: &mut Record, levels: &[u8], seen: &mut Seen) {
+    archive::run(bytes, levels, &mut seen.outputs);
+}
+
 #[inline(never)]
-fn model_run(device: &mut Device, levels: &[u8], outputs: &mut [u8]) {
-    for (output, level) in outputs.iter_mut().zip(levels) {
+fn model_run(device: &mut Device, levels: &[u8], seen: &mut Seen) {
+    for (output, level) in seen.outputs.iter_mut().zip(levels) {
         *output = device.clock(*level);
+    }
+}
+
+/// Turns, of which `RUN` and `REPORT` say what is done.
+fn archive_turns<const RUN: bool, const REPORT: bool>(bytes: &mut Record, levels: &[u8], seen: &mut Seen) {
+    for ((level, output), requests) in levels.iter().zip(&mut seen.outputs).zip(&mut seen.requests) {
+        if RUN {
+            archive::run(black_box(bytes), from_ref(level), from_mut(output));
+        }
+        if REPORT {
+            archive::requests(black_box(bytes), requests);
+        }
+    }
+}
+
+/// The same of the model.
+fn model_turns<const RUN: bool, const REPORT: bool>(device: &mut Device, levels: &[u8], seen: &mut Seen) {
+    for ((level, output), requests) in levels.iter().zip(&mut seen.outputs).zip(&mut seen.requests) {
+        if RUN {
+            *output = black_box(&mut *device).clock(*level);
+        }
+        if REPORT {
+            *requests = black_box(&*device).requests();
+        }
     }
 }
 
@@ -99,104 +212,90 @@ fn time(best: &mut f64, clocks: usize, run: impl FnOnce()) {
     *best = best.min(begun.elapsed().as_nanos() as f64 / clocks as f64);
 }
 
-/// ns a clock of archive and model.
-fn measure(row: &Row, rounds: usize) -> [f64; 2] {
+/// The record is the device's, and the archive takes it and reports what the model does.
+fn agree(bytes: &Record, device: &Device) -> bool {
+    let mut requests = 0;
+    archive::requests(bytes, &mut requests) == 0 && requests == device.requests() && *bytes == record::encode(device)
+}
+
+/// ns a clock of archive and model, each with its own way to do the row's work.
+fn race(
+    row: &Row,
+    rounds: usize,
+    ours: impl Fn(&mut Record, &[u8], &mut Seen),
+    theirs: impl Fn(&mut Device, &[u8], &mut Seen),
+) -> [f64; 2] {
+    let levels = &row.traffic.levels;
+    let clocks = row.devices * levels.len();
+    let zeros = Seen {
+        outputs: vec![0; levels.len()],
+        requests: vec![0; levels.len()],
+    };
+    let mut seen = [zeros.clone(), zeros];
     let mut devices = vec![row.start; row.devices];
-    let (mut ours, mut theirs) = (row.levels.clone(), row.levels.clone());
-    let clocks = row.devices * row.levels.len();
     let mut best = [f64::MAX; 2];
     for _ in 0..rounds {
-        devices.iter_mut().for_each(row.ready);
+        devices.iter_mut().for_each(row.traffic.ready);
         let mut records: Vec<_> = devices.iter().map(record::encode).collect();
         time(&mut best[0], clocks, || {
             for bytes in &mut records {
-                archive::run(black_box(bytes), &row.levels, &mut ours);
+                ours(black_box(bytes), levels, &mut seen[0]);
             }
         });
         time(&mut best[1], clocks, || {
             for device in &mut devices {
-                model_run(black_box(device), &row.levels, &mut theirs);
+                theirs(black_box(device), levels, &mut seen[1]);
             }
         });
-        let same = |(bytes, device): (&[u8; record::LENGTH], &Device)| *bytes == record::encode(device);
-        assert!(
-            ours == theirs && records.iter().zip(&devices).all(same),
-            "{}: a difference",
-            row.name
-        );
+        let same = seen[0] == seen[1] && records.iter().zip(&devices).all(|(bytes, device)| agree(bytes, device));
+        assert!(same, "{}: a difference", row.name);
     }
     best
 }
 
-/// ns of a run of one clock and a report, as a rig that has the processor core makes them.
-fn measure_single(start: Device, clocks: usize, rounds: usize) -> [f64; 2] {
-    let mut device = start;
-    let mut bytes = record::encode(&start);
-    let mut best = [f64::MAX; 2];
-    for _ in 0..rounds {
-        let (mut ours, mut theirs) = (0u64, 0u64);
-        time(&mut best[0], clocks, || {
-            for _ in 0..clocks {
-                let (mut output, mut requests) = ([0], 0);
-                archive::run(black_box(&mut bytes), black_box(&[IDLE]), &mut output);
-                archive::requests(black_box(&bytes), &mut requests);
-                ours += (output[0] + requests) as u64;
-            }
-        });
-        time(&mut best[1], clocks, || {
-            for _ in 0..clocks {
-                let output = black_box(&mut device).clock(black_box(IDLE));
-                theirs += (output + black_box(&device).requests()) as u64;
-            }
-        });
-        assert!(
-            ours == theirs && bytes == record::encode(&device),
-            "one clock and a report: a difference"
-        );
+fn measure(row: &Row, rounds: usize) -> [f64; 2] {
+    match row.work {
+        Work::Run => race(row, rounds, archive_run, model_run),
+        Work::Turns => race(row, rounds, archive_turns::<true, true>, model_turns::<true, true>),
+        Work::SingleRuns => race(row, rounds, archive_turns::<true, false>, model_turns::<true, false>),
+        Work::Reports => race(row, rounds, archive_turns::<false, true>, model_turns::<false, true>),
     }
-    best
 }
 
-fn print(name: &str, [archive, model]: [f64; 2], limit: f64) {
-    println!("{name:<46}{archive:>9.2}{model:>9.2}{:>9.2}{limit:>9.1}", archive / model);
+fn runs() -> Vec<Row> {
+    vec![
+        Row::of_runs("idle, UBRR 51, runs of 8320", serial(SLOW), idle(), 32),
+        Row::of_runs("full duplex, UBRR 0, runs of 160", serial(0), full_duplex(0), 200),
+        Row::of_runs("full duplex, UBRR 51, runs of 8320", serial(SLOW), full_duplex(SLOW), 32),
+        Row::of_runs("SPI master, divisor 2, runs of 16", fast_master(), transfers(), 200),
+    ]
+}
+
+fn turns() -> Vec<Row> {
+    let both = |name, limit, start, traffic| Row::of_turns(name, limit, Work::Turns, start, traffic);
+    let part = |name, work| Row::of_turns(name, None, work, serial(SLOW), idle());
+    vec![
+        both("idle, UBRR 51", Some(IDLE_LIMIT), serial(SLOW), idle()),
+        both("full duplex, UBRR 0", Some(BUSY_LIMIT), serial(0), full_duplex(0)),
+        both("idle, UBRR 0", Some(BUSY_LIMIT), serial(0), idle()),
+        both("full duplex, UBRR 51", Some(BUSY_LIMIT), serial(SLOW), full_duplex(SLOW)),
+        both("idle, UBRR 51, SPI an idle master", None, as_master(serial(SLOW)), idle()),
+        part("idle, UBRR 51, the run by itself", Work::SingleRuns),
+        part("idle, UBRR 51, the report by itself", Work::Reports),
+    ]
+}
+
+fn print_table(title: &str, rows: &[Row], rounds: usize) {
+    println!("{title:<46}{:>9}{:>9}{:>9}{:>9}", "archive", "model", "ratio", "to reach");
+    for row in rows {
+        let [archive, model] = measure(row, rounds);
+        let limit = row.limit.map_or("-".to_string(), |limit| format!("{limit:.1}"));
+        println!("{:<46}{archive:>9.2}{model:>9.2}{:>9.2}{limit:>9}", row.name, archive / model);
+    }
 }
 
 fn main() {
     let rounds = std::env::args().nth(1).map_or(ROUNDS, |word| word.parse().expect("a number of rounds"));
-    let rows = [
-        Row {
-            name: "idle, UBRR 51, runs of 8320",
-            start: serial(SLOW),
-            ready: nothing,
-            levels: idle(8320),
-            devices: 32,
-        },
-        Row {
-            name: "full duplex, UBRR 0, runs of 160",
-            start: serial(0),
-            ready: send,
-            levels: frame(0),
-            devices: 200,
-        },
-        Row {
-            name: "full duplex, UBRR 51, runs of 8320",
-            start: serial(SLOW),
-            ready: send,
-            levels: frame(SLOW),
-            devices: 32,
-        },
-        Row {
-            name: "SPI master, divisor 2, runs of 16",
-            start: master(),
-            ready: transfer,
-            levels: idle(16),
-            devices: 200,
-        },
-    ];
-    println!("{:<46}{:>9}{:>9}{:>9}{:>9}", "ns a clock", "archive", "model", "ratio", "to reach");
-    for row in &rows {
-        print(row.name, measure(row, rounds), RUN_LIMIT);
-    }
-    let single = measure_single(serial(SLOW), 20_000, rounds);
-    print("runs of one clock, each with a report, UBRR 51", single, SINGLE_LIMIT);
+    print_table("ns a clock", &runs(), rounds);
+    print_table("ns a run of one clock, each with a report", &turns(), rounds);
 }
