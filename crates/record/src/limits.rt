@@ -5,7 +5,7 @@ ghost use Rattle.record.specs.Layout.{recordLength, most};
 ghost use Rattle.record.specs.Accepts.{isWithin};
 
 // All are looked at, also after one that is too large: with no way out of the loop the compiler tests many at a time.
-pub fn within(s: &[u8]) -> bool
+pub(crate) fn within(s: &[u8]) -> bool
     requires { ⌜ length (now s) ≡ recordLength ⌝ }
     ensures { λ r. ⌜ r ≡ isWithin (now (s .entry)) most ⌝ }
 {

@@ -55,7 +55,7 @@ fn pins_at(s: &[u8]) -> Pins
     }
 }
 
-pub fn spi_at(s: &[u8]) -> Spi
+pub(crate) fn spi_at(s: &[u8]) -> Spi
     requires { ⌜ length (now s) ≡ recordLength ⌝ }
     ensures { λ r. ⌜ r ≡ spiAt (now (s .entry)) ⌝ }
 {

@@ -29,7 +29,7 @@ ghost use lib.ListN.{length};
 ghost use Rattle.record.specs.Layout.{recordLength};
 ghost use Rattle.record.specs.Lift.{baudAt, formatWith, formatOf, formatAt, controlOf, controlAt, bufferAt, transmissionAt, shifterAt, senderWith, senderAt, receptionAt, samplerAt, placesAt, queueWith, queueAt, receiverAt, usartAt};
 
-pub fn baud_at(s: &[u8]) -> Baud
+pub(crate) fn baud_at(s: &[u8]) -> Baud
     requires { ⌜ length (now s) ≡ recordLength ⌝ }
     ensures { λ r. ⌜ r ≡ baudAt (now (s .entry)) ⌝ }
 {
@@ -64,7 +64,7 @@ fn format_of(a: u8, b: u8, c: u8) -> Format
     )
 }
 
-pub fn format_at(s: &[u8]) -> Format
+pub(crate) fn format_at(s: &[u8]) -> Format
     requires { ⌜ length (now s) ≡ recordLength ⌝ }
     ensures { λ r. ⌜ r ≡ formatAt (now (s .entry)) ⌝ }
 {
@@ -84,7 +84,7 @@ fn control_of(b: u8) -> Control
     }
 }
 
-pub fn control_at(s: &[u8]) -> Control
+pub(crate) fn control_at(s: &[u8]) -> Control
     requires { ⌜ length (now s) ≡ recordLength ⌝ }
     ensures { λ r. ⌜ r ≡ controlAt (now (s .entry)) ⌝ }
 {
@@ -101,7 +101,7 @@ fn buffer_at(s: &[u8]) -> Buffer
     )
 }
 
-pub fn transmission_at(s: &[u8]) -> Transmission
+pub(crate) fn transmission_at(s: &[u8]) -> Transmission
     requires { ⌜ length (now s) ≡ recordLength ⌝ }
     ensures { λ r. ⌜ r ≡ transmissionAt (now (s .entry)) ⌝ }
 {
@@ -129,14 +129,14 @@ fn sender_with(a: u8, buffer: Buffer, shifter: ShiftRegister) -> Sender
     }
 }
 
-pub fn sender_at(s: &[u8]) -> Sender
+pub(crate) fn sender_at(s: &[u8]) -> Sender
     requires { ⌜ length (now s) ≡ recordLength ⌝ }
     ensures { λ r. ⌜ r ≡ senderAt (now (s .entry)) ⌝ }
 {
     sender_with(s[layout::UCSR0A], buffer_at(s), shifter_at(s))
 }
 
-pub fn reception_at(s: &[u8]) -> Reception
+pub(crate) fn reception_at(s: &[u8]) -> Reception
     requires { ⌜ length (now s) ≡ recordLength ⌝ }
     ensures { λ r. ⌜ r ≡ receptionAt (now (s .entry)) ⌝ }
 {
@@ -192,7 +192,7 @@ fn receiver_at(s: &[u8]) -> Receiver
     }
 }
 
-pub fn usart_at(s: &[u8]) -> Usart
+pub(crate) fn usart_at(s: &[u8]) -> Usart
     requires { ⌜ length (now s) ≡ recordLength ⌝ }
     ensures { λ r. ⌜ r ≡ usartAt (now (s .entry)) ⌝ }
 {

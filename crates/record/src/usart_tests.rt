@@ -31,7 +31,7 @@ fn settings_of(a: u8, b: u8, c: u8) -> bool
         & known(size_code(b, c))
 }
 
-pub fn settings_fit(s: &[u8]) -> bool
+pub(crate) fn settings_fit(s: &[u8]) -> bool
     requires { ⌜ length (now s) ≡ recordLength ⌝ }
     ensures { λ r. ⌜ r ≡ settingsFit (byteAt (now (s .entry)) ucsr0aByte) (byteAt (now (s .entry)) ucsr0bByte) (byteAt (now (s .entry)) ucsr0cByte) ⌝ }
 {
@@ -186,7 +186,7 @@ fn enabled_fits(s: &[u8]) -> bool
 }
 
 // Bytes 0 to 47, but for their limits and the settings.
-pub fn usart_fits(s: &[u8]) -> bool
+pub(crate) fn usart_fits(s: &[u8]) -> bool
     requires { ⌜ length (now s) ≡ recordLength ⌝ }
     ensures { λ r. ⌜ r ≡ usartFits (now (s .entry)) ⌝ }
 {
