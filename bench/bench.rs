@@ -67,11 +67,10 @@ struct Row {
 
 impl Row {
     fn of_runs(name: &'static str, start: Device, traffic: Traffic, devices: usize) -> Row {
-        let (work, limit) = (Work::Run, Some(RUN_LIMIT));
         Row {
             name,
-            limit,
-            work,
+            limit: Some(RUN_LIMIT),
+            work: Work::Run,
             start,
             traffic,
             devices,
@@ -81,12 +80,9 @@ impl Row {
     fn of_turns(name: &'static str, limit: Option<f64>, work: Work, start: Device, traffic: Traffic) -> Row {
         let devices = TURNS / traffic.levels.len();
         Row {
-            name,
             limit,
             work,
-            start,
-            traffic,
-            devices,
+            ..Row::of_runs(name, start, traffic, devices)
         }
     }
 }

@@ -8,6 +8,7 @@ use native.Mathlib.Omega.{arith}
 use lib.Dec.{eqb, ltb}
 use lib.ListN.{length, getD}
 use borrow.Author.Tests.{eqb-true, eqb-false, ltb-true, ltb-false, lt-ltb, le-ltb, not-true, not-false}
+use Rattle.choice.specs.Pick.{pick}
 use Rattle.choice.proofs.Picks.{pick-true, pick-false, split, both}
 use Rattle.frame.specs.Format.{samples, firstVote}
 use Rattle.frame.specs.declared.format.Format.{Format}
@@ -17,6 +18,7 @@ use Rattle.usart.specs.Sampler.{isReceiving}
 use Rattle.usart.specs.Receiver.{stopped}
 use Rattle.usart.specs.Counting.{senderQuiet, bitQuiet, countedShifter, countedSampler, countedReceiver}
 use Rattle.usart.specs.declared.baud.Baud.{Baud}
+use Rattle.usart.specs.declared.sender.Buffer.{Buffer}
 use Rattle.usart.specs.declared.sender.Transmission.{Transmission}
 use Rattle.usart.specs.declared.sender.ShiftRegister.{ShiftRegister}
 use Rattle.usart.specs.declared.sender.ShiftRegister.the-variants.{Resting, Sending}
@@ -27,7 +29,7 @@ use Rattle.usart.specs.declared.receiver.Receiver.{Receiver}
 use Rattle.spi.specs.Holding.{isAtRest}
 use Rattle.device.specs.Valid.{Valid}
 use Rattle.device.specs.Unit.{rxdIn, levelsIn, outputOf}
-use Rattle.device.specs.Counting.{serialCounts, isCounting, countedUsart, countedDevice, receiverCounts as deviceCounts}
+use Rattle.device.specs.Counting.{serialCounts, isCounting, countedUsart, countedDevice, receiverCounts}
 use Rattle.device.specs.declared.unit.Device.{Device}
 use Rattle.record.specs.Layout.{recordLength, most, leftByte, byteAt, wordAt, low, high}
 use Rattle.record.specs.Parts.{bufferFrom, transmissionIn, shifterFrom, rememberedIn, receptionIn, samplerFrom}
@@ -35,7 +37,7 @@ use Rattle.record.specs.Image.{bit, imageOf}
 use Rattle.record.specs.Lift.{deviceAt}
 use Rattle.record.specs.Accepts.{accepts, isRecord}
 use Rattle.record.specs.Codec.{recordOf}
-use Rattle.record.specs.InPlace.{senderCounts, samplerCounts, receiverCounts, tickedOver, waitedOver, advancedOver, steppedOf, steppedOver}
+use Rattle.record.specs.InPlace.{tickedOver, waitedOver, advancedOver, steppedOf, steppedOver}
 use Rattle.record.specs.declared.in_place.Stepped.the-variants.{Refused, Counted, Due}
 use Rattle.record.proofs.CodeLaws.{word-parts}
 use Rattle.record.proofs.BytesLaws.{limit, valid-device, image-again, Same, done, _▹_, same-lists}
@@ -60,21 +62,35 @@ module _ (f : Format) (n v : ℕ) (e : v ≡ firstVote f) where
   unfolding bitQuiet
   quiet-after m g h k = over n (m - 1) ∙ rw (← e, ← g, le-ltb n v h, le-ltb n (v + 2) k)
 
--- what is looked at of sender and receiver
+-- what is looked at of the sender: the ticks of a bit that is being sent, else whether the buffer is full
 
-pub sender-counts : (f : Format) (full sending : Bool) (d : ℕ) (t : Transmission)
-    → senderCounts f full sending (t .sample .0) ≡ ltb 0 (senderQuiet f (bufferFrom full d) (shifterFrom sending t))
-unfolding senderCounts senderQuiet bufferFrom shifterFrom
-sender-counts f full true d t = over (t .sample .0) (samples f - 1)
-sender-counts f true false d t = refl
-sender-counts f false false d t = refl
+pub sender-within : (f : Format) (m : ℕ) (sending : Bool) (b : Buffer) (t : Transmission) → m ≡ samples f → sending ≡ true
+    → ltb (t .sample .0) (m - 1) ≡ ltb 0 (senderQuiet f b (shifterFrom sending t))
+unfolding senderQuiet shifterFrom
+sender-within f m sending b t g e = over (t .sample .0) (m - 1) ∙ rw (e, g)
 
-pub receiver-counts : (f : Format) (rxen receiving last : Bool) (r : Reception) (rxd : Bool)
-    → receiverCounts f rxen receiving last (r .sample .0) rxd ≡ deviceCounts rxen f (samplerFrom receiving last r) rxd
-unfolding receiverCounts samplerCounts deviceCounts samplerFrom
-receiver-counts f true true last r rxd = refl
-receiver-counts f true false last r rxd = refl
-receiver-counts f false receiving last r rxd = refl
+pub sender-resting : (f : Format) (full sending : Bool) (d : ℕ) (t : Transmission) → sending ≡ false
+    → not full ≡ ltb 0 (senderQuiet f (bufferFrom full d) (shifterFrom sending t))
+unfolding senderQuiet bufferFrom shifterFrom
+sender-resting f true sending d t e = rw e
+sender-resting f false sending d t e = rw e
+
+-- of the receiver: nothing where it is disabled; else the samples of a bit, or the level that it remembers
+
+module _ (f : Format) (rxen receiving last : Bool) (r : Reception) (rxd : Bool) where
+  pub receiver-off : rxen ≡ false → true ≡ receiverCounts rxen f (samplerFrom receiving last r) rxd
+  unfolding receiverCounts
+  receiver-off e = pick-false _ _ _ _ e refl
+
+  pub receiver-within : {b : Bool} → rxen ≡ true → receiving ≡ true → b ≡ ltb 0 (bitQuiet f (r .sample .0))
+      → b ≡ receiverCounts rxen f (samplerFrom receiving last r) rxd
+  unfolding receiverCounts samplerFrom
+  receiver-within e k h = pick-true _ _ _ _ e (rw k h)
+
+  pub receiver-idle : {b : Bool} → rxen ≡ true → receiving ≡ false → b ≡ pick last rxd (not rxd)
+      → b ≡ receiverCounts rxen f (samplerFrom receiving last r) rxd
+  unfolding receiverCounts samplerFrom
+  receiver-idle e k h = pick-true _ _ _ _ e (rw k h)
 
 -- and of the device: r says that the SPI is at rest, t that this clock gives a tick
 

@@ -39,12 +39,12 @@ pub received-lt : (f : Format) (s : Sampler) → ValidSampler f s → receptionI
 received-lt f (Idle last) v = omega arith
 received-lt f (Receiving r) v = let l = word-limit f in let w : r .word < 2 ^ wordBits f = v .word in omega arith
 
-pub oldest-lt : (p : Places) → ValidPlaces p → oldestOf p .«data» < 512
+oldest-lt : (p : Places) → ValidPlaces p → oldestOf p .«data» < 512
 oldest-lt Empty v = omega arith
 oldest-lt (One a) v = v
 oldest-lt (Two a b) v = v .0
 
-pub second-lt : (p : Places) → ValidPlaces p → secondIn p .«data» < 512
+second-lt : (p : Places) → ValidPlaces p → secondIn p .«data» < 512
 second-lt Empty v = omega arith
 second-lt (One a) v = omega arith
 second-lt (Two a b) v = v .1

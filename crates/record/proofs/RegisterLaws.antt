@@ -25,7 +25,7 @@ use Rattle.record.specs.Lift.{formatOf, controlOf}
 use Rattle.record.proofs.CodeLaws.{size-again, parity-again}
 
 -- a digit says which
-pub set-again : (n : ℕ) (b : Bool) → n ≡ digit b → eqb n 1 ≡ b
+set-again : (n : ℕ) (b : Bool) → n ≡ digit b → eqb n 1 ≡ b
 set-again n b h = ap (λ (x : ℕ). eqb x 1) h ∙ digit-is b
 
 -- a test that all numbers below n pass, and what it says of each

@@ -1,14 +1,9 @@
--- A means, no rule: a clock that only counts, by a few bytes of the record, and what is looked at for it. That it comes to the clock of the
--- device that they say is proved in proofs/InPlaceLaws.antt.
+-- A means, no rule: a clock that only counts, by the few bytes that it changes. That it comes to the clock of the device that
+-- they say is proved in proofs/InPlaceLaws.antt; which clocks these are is said of the device.
 use Prim.Native.Nat.{ℕ, _+_, _-_}
-use mathlib.Core.Bool.{Bool, true, not}
 use mathlib.Core.List.{List}
-use lib.Dec.{ltb}
 use lib.ListN.{set}
 use Rattle.choice.specs.Pick.{pick}
-use Rattle.frame.specs.Format.{samples}
-use Rattle.frame.specs.declared.format.Format.{Format}
-use Rattle.usart.specs.Counting.{bitQuiet}
 use Rattle.usart.specs.Baud.{ticks}
 use Rattle.device.specs.Unit.{outputOf}
 use Rattle.device.specs.Counting.{isCounting, countedDevice}
@@ -18,17 +13,6 @@ use Rattle.record.specs.Accepts.{isRecord}
 use Rattle.record.specs.Codec.{recordOf}
 use Rattle.record.specs.declared.in_place.Stepped.{Stepped}
 use Rattle.record.specs.declared.in_place.Stepped.the-variants.{Refused, Counted, Due}
-
--- the sender at a tick: within a bit, or with nothing to send
-unfoldable pub senderCounts : Format → Bool → Bool → ℕ → Bool
-senderCounts f full sending n = pick sending (ltb n (samples f - 1)) (not full)
-
--- the sampler at a tick: within a bit, neither a vote nor its last sample; idle, the level that it remembers
-unfoldable pub samplerCounts : Format → Bool → Bool → ℕ → Bool → Bool
-samplerCounts f receiving last n rxd = pick receiving (ltb 0 (bitQuiet f n)) (pick last rxd (not rxd))
-
-unfoldable pub receiverCounts : Format → Bool → Bool → Bool → ℕ → Bool → Bool
-receiverCounts f rxen receiving last n rxd = pick rxen (samplerCounts f receiving last n rxd) true
 
 -- a tick: the baud counter is loaded, and each bit under way has one more
 abbrev pub tickedOver : List ℕ → List ℕ

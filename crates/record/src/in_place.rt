@@ -5,7 +5,6 @@ use crate::codes::word;
 use crate::layout;
 use crate::spi_lift::spi_at;
 use crate::usart_lift::baud_at;
-use crate::usart_lift::control_at;
 use crate::usart_lift::format_at;
 use crate::usart_lift::sender_at;
 use choice::digit;
@@ -16,14 +15,14 @@ ghost use mathlib.Core.Bool.{true};
 ghost use Prim.Native.Nat.{_<_};
 ghost use lib.Dec.{ltb};
 ghost use lib.ListN.{length};
-ghost use Rattle.usart.specs.Counting.{bitQuiet};
+ghost use Rattle.usart.specs.Counting.{senderQuiet, bitQuiet};
 ghost use Rattle.usart.specs.Unit.{isDriven, outputOf as serialOutput};
 ghost use Rattle.device.specs.Unit.{outputOf};
-ghost use Rattle.device.specs.Counting.{serialCounts, isCounting};
-ghost use Rattle.record.specs.Layout.{recordLength, leftByte, wordAt, fullByte, sendingByte, sentTicksByte, receivingByte, lastByte, samplesByte, byteAt, setAt};
-ghost use Rattle.record.specs.Lift.{controlAt, usartAt, deviceAt};
+ghost use Rattle.device.specs.Counting.{receiverCounts, serialCounts, isCounting};
+ghost use Rattle.record.specs.Layout.{recordLength, leftByte, wordAt};
+ghost use Rattle.record.specs.Lift.{controlAt, bufferAt, shifterAt, samplerAt, usartAt, deviceAt};
 ghost use Rattle.record.specs.Accepts.{accepts};
-ghost use Rattle.record.specs.InPlace.{senderCounts, samplerCounts, receiverCounts, tickedOver, waitedOver, advancedOver, steppedOf, steppedOver};
+ghost use Rattle.record.specs.InPlace.{tickedOver, waitedOver, advancedOver, steppedOf, steppedOver};
 
 // What one clock came to.
 pub enum Stepped {
@@ -37,7 +36,7 @@ pub enum Stepped {
 
 fn sender_counts(s: &[u8], f: Format) -> bool
     requires { ⌜ length (now s) ≡ recordLength ⌝ }
-    ensures { λ r. ⌜ r ≡ senderCounts f (setAt (now (s .entry)) fullByte) (setAt (now (s .entry)) sendingByte) (byteAt (now (s .entry)) sentTicksByte) ⌝ }
+    ensures { λ r. ⌜ r ≡ ltb 0 (senderQuiet f (bufferAt (now (s .entry))) (shifterAt (now (s .entry)))) ⌝ }
 {
     if s[layout::SENDING] == 1 {
         return s[layout::SENT_TICKS] < f.samples() - 1;
@@ -59,32 +58,21 @@ fn sample_counts(f: Format, n: u8) -> bool
     n < f.samples() - 1
 }
 
-fn sampler_counts(f: Format, receiving: bool, last: bool, n: u8, rxd: bool) -> bool
-    ensures { λ r. ⌜ r ≡ samplerCounts f receiving last n rxd ⌝ }
+fn receiver_counts(s: &[u8], f: Format, rxd: bool) -> bool
+    requires { ⌜ length (now s) ≡ recordLength ⌝ }
+    ensures { λ r. ⌜ r ≡ receiverCounts (controlAt (now (s .entry)) .rxen) f (samplerAt (now (s .entry))) rxd ⌝ }
 {
-    if receiving {
-        return sample_counts(f, n);
+    let rxen = s[layout::UCSR0B] / 16 % 2 == 1;
+    if !rxen {
+        return true;
     }
-    if last {
+    if s[layout::RECEIVING] == 1 {
+        return sample_counts(f, s[layout::SAMPLES]);
+    }
+    if s[layout::LAST] == 1 {
         return rxd;
     }
     !rxd
-}
-
-fn receiver_counts(s: &[u8], f: Format, rxd: bool) -> bool
-    requires { ⌜ length (now s) ≡ recordLength ⌝ }
-    ensures { λ r. ⌜ r ≡ receiverCounts f (controlAt (now (s .entry)) .rxen) (setAt (now (s .entry)) receivingByte) (setAt (now (s .entry)) lastByte) (byteAt (now (s .entry)) samplesByte) rxd ⌝ }
-{
-    if s[layout::UCSR0B] / 16 % 2 == 1 {
-        return sampler_counts(
-            f,
-            s[layout::RECEIVING] == 1,
-            s[layout::LAST] == 1,
-            s[layout::SAMPLES],
-            rxd,
-        );
-    }
-    true
 }
 
 // At a tick.
