@@ -1,7 +1,8 @@
--- The numbers of the refusals (document 01, 'Numbers the rig sees'). 0 is done; 9 to 12 are document 02's.
+-- The numbers of the refusals (document 01, 'Numbers the rig sees'). 0 is done; 9 to 12 are document 02's,
+-- of which 11 is M-104's.
 use Prim.Native.Nat.{ℕ}
 use Rattle.answer.specs.declared.Refusal.{Refusal}
-use Rattle.answer.specs.declared.Refusal.the-variants.{Unknown, Reserved, Unmodelled, UnderWay, Record, Length, Level, Unrequested}
+use Rattle.answer.specs.declared.Refusal.the-variants.{Unknown, Reserved, Unmodelled, UnderWay, Record, Length, Level, Unrequested, Range}
 
 abbrev pub numberOf : Refusal → ℕ
 numberOf Unknown = 1
@@ -12,3 +13,4 @@ numberOf Record = 5
 numberOf Length = 6
 numberOf Level = 7
 numberOf Unrequested = 8
+numberOf Range = 11

@@ -2,7 +2,7 @@
 ghost use mathlib.Core.Path.{_≡_};
 ghost use Rattle.answer.specs.Number.{numberOf};
 
-// Document 01's refusals. Document 02 adds the numbers 9 to 12, each with the request that first answers it.
+// Document 01's refusals, and document 02's, of which 9, 10 and 12 come with the requests that first answer them.
 pub enum Refusal {
     // No such register address or vector.
     Unknown,
@@ -20,6 +20,8 @@ pub enum Refusal {
     Level,
     // A vector taken without its request.
     Unrequested,
+    // A clock or a rate out of its range, where a baud setting is asked for.
+    Range,
 }
 
 impl Refusal {
@@ -36,6 +38,7 @@ impl Refusal {
             Refusal::Length => 6,
             Refusal::Level => 7,
             Refusal::Unrequested => 8,
+            Refusal::Range => 11,
         }
     }
 }

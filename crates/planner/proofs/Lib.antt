@@ -1,0 +1,8 @@
+pub mod ErrorLaws
+pub mod NeighbourLaws
+pub mod ChoiceLaws
+pub mod SignedLaws
+pub mod FigureLaws
+pub mod Sizes
+pub mod PlanningLaws
+pub mod Examples

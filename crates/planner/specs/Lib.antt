@@ -1,0 +1,3 @@
+pub mod Setting
+pub mod Figure
+pub mod Planning
