@@ -2,6 +2,7 @@
 
    The rig lends a device as a record of 64 bytes and calls the functions below. Each answers a number (WARPMAGPIE_DONE
    or a refusal). A refusal leaves every byte of record and outputs as it was, and puts 0 where a value is answered.
+   Two further calls, at the end, choose a baud setting and take no record.
 
    What C has to keep: a pointer points to as many bytes as its length says (it may be null where the length is 0), and
    the memory of one argument does not overlap that of another. Nothing else is asked of any argument. The record's
@@ -23,7 +24,7 @@ extern "C" {
 /* Of header, archive and pkg-config file. MAJOR rises where a rig may have to change its code or drop its stored
    records, MINOR where there is more than before, PATCH with any other change. WARPMAGPIE_VERSION is for #if. */
 #define WARPMAGPIE_VERSION_MAJOR 2
-#define WARPMAGPIE_VERSION_MINOR 0
+#define WARPMAGPIE_VERSION_MINOR 1
 #define WARPMAGPIE_VERSION_PATCH 0
 #define WARPMAGPIE_VERSION \
     (WARPMAGPIE_VERSION_MAJOR * 10000 + WARPMAGPIE_VERSION_MINOR * 100 + WARPMAGPIE_VERSION_PATCH)
@@ -31,7 +32,7 @@ extern "C" {
 #define WARPMAGPIE_RECORD_LEN 64
 
 /* Answers. Where more than one refusal applies, the order is 5, 1, 2, 3, 4; for a run 5, 6, 7; for a vector 5, 1, 8.
-   Numbers 9 to 12 are kept for requests to come. */
+   Numbers 9, 10 and 12 are kept for requests to come. */
 enum warpmagpie_answer {
     WARPMAGPIE_DONE = 0,
     WARPMAGPIE_REFUSED_UNKNOWN = 1,     /* no such register address or vector */
@@ -41,7 +42,8 @@ enum warpmagpie_answer {
     WARPMAGPIE_REFUSED_RECORD = 5,      /* record not 64 bytes, a field out of its range, or an unused byte not zero */
     WARPMAGPIE_REFUSED_LENGTH = 6,      /* output slice not as long as the level slice */
     WARPMAGPIE_REFUSED_LEVEL = 7,       /* a level byte with bit 5, 6 or 7 set */
-    WARPMAGPIE_REFUSED_UNREQUESTED = 8  /* vector taken without its request */
+    WARPMAGPIE_REFUSED_UNREQUESTED = 8, /* vector taken without its request */
+    WARPMAGPIE_REFUSED_RANGE = 11       /* clock not 1 to 20,000,000 Hz, or rate not 1 to 2,500,000 */
 };
 
 /* Register addresses, in data space. */
@@ -163,6 +165,19 @@ uint8_t warpmagpie_run(uint8_t *record, size_t record_len, const uint8_t *levels
 
 /* Reports the interrupt requests into *requests. Answers 0 or 5; *requests is 0 on a refusal. The record is not changed. */
 uint8_t warpmagpie_requests(const uint8_t *record, size_t record_len, uint8_t *requests);
+
+/* The two calls below choose a baud setting. They take no record, and each costs the same whatever its arguments are.
+   clock_hz is 1 to 20,000,000, rate 1 to 2,500,000 baud; any other is answered 11, with 0 in every answer. u2x is 0
+   for normal speed; any other byte is double speed. With T = S * (UBRR + 1) * rate, S being 16 or, at double speed, 8,
+   the error of a UBRR is clock_hz / T - 1. */
+
+/* Puts into *ubrr the UBRR, 0 to 4095, whose absolute error is the smallest at this speed, the larger where two tie,
+   and into *tenths its error in tenths of a percent, rounded to the nearest, halves away from zero. Answers 0 or 11. */
+uint8_t warpmagpie_plan_baud(uint32_t clock_hz, uint32_t rate, uint8_t u2x, uint16_t *ubrr, int32_t *tenths);
+
+/* Puts 1 into *accepted where ubrr is at most 4095 and no other such UBRR has a smaller absolute error at this speed,
+   else 0. Where two tie both are accepted. Answers 0 or 11. */
+uint8_t warpmagpie_check_baud(uint32_t clock_hz, uint32_t rate, uint8_t u2x, uint32_t ubrr, uint8_t *accepted);
 
 #ifdef __cplusplus
 }

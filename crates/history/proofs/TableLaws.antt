@@ -1,14 +1,21 @@
--- Every call answers the number that document 01's table gives it, and a refusal leaves everything as it was.
+-- Every call answers the number that the table gives it, and a refusal leaves everything as it was.
 use Prim.Native.Nat.{ℕ, _/_, _<_}
 use mathlib.Core.Bool.{Bool, true, false, not, _&&_, _||_, true≢false}
 use mathlib.Core.List.{List, [], _∷_}
 use mathlib.Core.Path.{_≡_, refl, sym, ap, _∙_}
 use native.Mathlib.Omega.{arith}
-use lib.Dec.{eqb, ltb}
+use lib.Dec.{eqb, ltb, leb}
+use lib.IntN.{pos}
 use lib.ListN.{length}
-use borrow.Author.Tests.{eq-eqb, ne-eqb, eqb-true, ltb-true, ltb-false}
+use borrow.Author.Tests.{eq-eqb, ne-eqb, eqb-true, lt-ltb, le-ltb, ltb-true, ltb-false, leb-true, leb-false}
 use Rattle.choice.specs.Pick.{pick}
 use Rattle.choice.proofs.Picks.{split, clash}
+use Rattle.planner.specs.Planning.{isInRange, plannedOf, planNumberOf, ubrrOf, tenthsOf, checkedOf, checkNumberOf, acceptedOf}
+use Rattle.planner.specs.declared.outcome.Planned.{Planned}
+use Rattle.planner.specs.declared.outcome.Planned.the-variants.{Done as Settled, Refused as Unplanned}
+use Rattle.planner.specs.declared.outcome.Checked.{Checked}
+use Rattle.planner.specs.declared.outcome.Checked.the-variants.{Told, Refused as Untold}
+use Rattle.planner.proofs.PlanningLaws.{plans, checks, refuses}
 use Rattle.usart.specs.Unit.{txcRequested}
 use Rattle.usart.specs.Write.{writeOf as serialWriteOf, vectorOf as serialVectorOf}
 use Rattle.usart.proofs.RefusalLaws.{write-number as serial-write, vector-number as serial-vector}
@@ -37,8 +44,9 @@ use Rattle.record.specs.Refusing.{NoRecord}
 use Rattle.record.proofs.Five.{five}
 use Rattle.record.proofs.Round.{record-decode}
 use Rattle.warpmagpie.specs.Calls.{kept, keptByRead, resetOn, writeOn, readOn, readAnswer, readValue, vectorOn, runOn, outputsOn, runAnswer, recordAfterRun, outputsAfterRun, requestsAnswerOn, requestsAnswer, requestsValueOn, requestsValue}
+use Rattle.warpmagpie.specs.Baud.{planAnswer, planUbrr, planTenths, checkAnswer, checkAccepted}
 use Rattle.history.specs.Call.{run, query, Call, reset, write, read, vector, pass, effect, recordAfter, deviceIn}
-use Rattle.history.specs.Table.{isNoDevice, isNoRecord, isWrongLength, isNoPlace, isNowhere, isNoVector, reservedAt, unmodelledAt, underWayAt, areUneven, hasHighLevel, isUnrequested, Numbers}
+use Rattle.history.specs.Table.{isNoDevice, isNoRecord, isWrongLength, isNoPlace, isNowhere, isNoVector, reservedAt, unmodelledAt, underWayAt, areUneven, hasHighLevel, isUnrequested, isOutOfRange, Numbers}
 
 -- writes
 write-in : (d : Device) (p : Place) (v : ℕ) → v < 256
@@ -131,6 +139,42 @@ unfolding requestsAnswerOn
 report-table (Accepted d) = refl
 report-table NoDevice = refl
 
+-- the baud setting: out of range by the four tests is not in range by theirs
+least-one : (n : ℕ) → eqb n 0 ≡ not (leb 1 n)
+least-one n =
+    split (leb 1 n) (λ h. let k = leb-true 1 n h in ne-eqb n 0 (λ e. omega (arith, k, e)) ∙ ap not (sym h))
+    (λ h. let k = leb-false 1 n h in eq-eqb n 0 (omega (arith, k)) ∙ ap not (sym h))
+
+at-most : (m n : ℕ) → ltb m n ≡ not (leb n m)
+at-most m n =
+    split (leb n m) (λ h. le-ltb m n (leb-true n m h) ∙ ap not (sym h))
+    (λ h. lt-ltb m n (leb-false n m h) ∙ ap not (sym h))
+
+outside-by : (a b c d : Bool) → (not a || not b) || (not c || not d) ≡ not (pick a (pick b (pick c d false) false) false)
+outside-by true true true d = refl
+outside-by true true false d = refl
+outside-by true false c d = refl
+outside-by false b c d = refl
+
+out-of-range : (clock rate : ℕ) → isOutOfRange clock rate ≡ not (isInRange clock rate)
+out-of-range clock rate =
+    rw (least-one clock, at-most 20000000 clock, least-one rate, at-most 2500000 rate)
+    (outside-by (leb 1 clock) (leb clock 20000000) (leb 1 rate) (leb rate 2500000))
+
+range-by : (t : Bool) (n : ℕ) → (t ≡ true → n ≡ 0) → (t ≡ false → n ≡ 11) → n ≡ pick (not t) 11 0
+range-by true n f g = f refl
+range-by false n f g = g refl
+
+plan-table : (clock rate u2x : ℕ) → planAnswer clock rate u2x ≡ pick (isOutOfRange clock rate) 11 0
+plan-table clock rate u2x =
+    range-by (isInRange clock rate) (planAnswer clock rate u2x) (λ h. plans clock rate u2x h .done) (λ h. refuses clock rate u2x 0 h .planner)
+    ∙ ap (λ (t : Bool). pick t 11 0) (sym (out-of-range clock rate))
+
+check-table : (clock rate u2x ubrr : ℕ) → checkAnswer clock rate u2x ubrr ≡ pick (isOutOfRange clock rate) 11 0
+check-table clock rate u2x ubrr =
+    range-by (isInRange clock rate) (checkAnswer clock rate u2x ubrr) (λ h. checks clock rate u2x ubrr h .done) (λ h. refuses clock rate u2x ubrr h .check)
+    ∙ ap (λ (t : Bool). pick t 11 0) (sym (out-of-range clock rate))
+
 -- number 5 by itself
 refused-as : (r : Decoded) → isNoDevice r ≡ true → r ≡ NoDevice
 refused-as (Accepted d) e = clash e refl
@@ -149,6 +193,8 @@ numbered s = record {
   vector = vector-table (decodeOf s);
   run = run-table (decodeOf s);
   report = report-table (decodeOf s);
+  plan = plan-table;
+  check = check-table;
 }
 
 -- every refusal leaves the record untouched
@@ -191,6 +237,21 @@ no-report NoDevice f = refl
 
 pub refused-report : (s : List ℕ) → (requestsAnswer s ≡ 0 → ⊥) → requestsValue s ≡ 0
 refused-report s f = no-report (decodeOf s) f
+
+-- .. and so do a refused planner and a refused check
+no-plan : (p : Planned) → (planNumberOf p ≡ 0 → ⊥) → (ubrrOf p ≡ 0) × (tenthsOf p ≡ pos 0)
+no-plan (Settled u e) f = absurd (f refl)
+no-plan (Unplanned r) f = (refl, refl)
+
+pub refused-plan : (clock rate u2x : ℕ) → (planAnswer clock rate u2x ≡ 0 → ⊥) → (planUbrr clock rate u2x ≡ 0) × (planTenths clock rate u2x ≡ pos 0)
+refused-plan clock rate u2x = no-plan (plannedOf clock rate u2x)
+
+no-check : (c : Checked) → (checkNumberOf c ≡ 0 → ⊥) → acceptedOf c ≡ 0
+no-check (Told b) f = absurd (f refl)
+no-check (Untold r) f = refl
+
+pub refused-check : (clock rate u2x ubrr : ℕ) → (checkAnswer clock rate u2x ubrr ≡ 0 → ⊥) → checkAccepted clock rate u2x ubrr ≡ 0
+refused-check clock rate u2x ubrr = no-check (checkedOf clock rate u2x ubrr)
 
 -- a run of no clocks is done and changes nothing
 none-run : (s : List ℕ) (d : Device) → decodeOf s ≡ Accepted d → runOn (decodeOf s) [] [] ≡ Done d

@@ -1,10 +1,11 @@
--- Document 01's table of numbers, for calls on a record: for each number its condition, by itself, and for each exported
--- call its numbers in the order given there, of which the first whose condition holds is the answer, else 0.
+-- The table of numbers, document 01's and what document 02 adds: for each number its condition, by itself, and for each exported call
+-- its numbers in the order given there, of which the first whose condition holds is the answer, else 0. The record is any bytes; the last
+-- two calls take none.
 use Prim.Native.Nat.{ℕ, _/_, _<_}
 use mathlib.Core.Bool.{Bool, true, false, not, _&&_, _||_}
 use mathlib.Core.List.{List, [], _∷_}
 use mathlib.Core.Path.{_≡_}
-use lib.Dec.{eqb}
+use lib.Dec.{eqb, ltb}
 use lib.ListN.{length}
 use Rattle.choice.specs.Pick.{pick}
 use Rattle.usart.specs.Unit.{txcRequested}
@@ -21,6 +22,7 @@ use Rattle.record.specs.Refusing.{NoRecord}
 use Rattle.record.specs.declared.codec.Decoded.{Decoded}
 use Rattle.record.specs.declared.codec.Decoded.the-variants.{Accepted, Refused}
 use Rattle.warpmagpie.specs.Calls.{resetAnswer, writeAnswer, readAnswer, vectorAnswer, runAnswer, requestsAnswer}
+use Rattle.warpmagpie.specs.Baud.{planAnswer, checkAnswer}
 use Rattle.history.specs.Call.{deviceOf}
 
 -- 5: record not 64 bytes, a field out of its range (also against the format), or an unused byte not zero. As a test it is that the record
@@ -80,6 +82,10 @@ hasHighLevel (l ∷ ls) = not (eqb (l / 32) 0) || hasHighLevel ls
 abbrev pub isUnrequested : Device → ℕ → Bool
 isUnrequested d n = eqb n 0 && not (txcRequested (d .usart)) || eqb n 1 && not (isRequested (d .spi))
 
+-- 11: clock not 1 to 20,000,000 Hz, or rate not 1 to 2,500,000 (document 02, M-104)
+abbrev pub isOutOfRange : ℕ → ℕ → Bool
+isOutOfRange clock rate = (eqb clock 0 || ltb 20000000 clock) || (eqb rate 0 || ltb 2500000 rate)
+
 -- order: 5, 1, 2, 3, 4; for a run 5, 6, 7; for a vector 5, 1, 8
 pub record Numbers (s : List ℕ) : Type 0 where
   pub noRecord : (isNoRecord s ≡ true → NoRecord s) × (NoRecord s → isNoRecord s ≡ true)
@@ -96,3 +102,5 @@ pub record Numbers (s : List ℕ) : Type 0 where
   pub vector : (n : ℕ) → vectorAnswer s n ≡ pick (isNoRecord s) 5 (pick (isNoVector n) 1 (pick (isUnrequested (deviceOf s) n) 8 0))
   pub run : (ls os : List ℕ) → runAnswer s ls os ≡ pick (isNoRecord s) 5 (pick (areUneven ls os) 6 (pick (hasHighLevel ls) 7 0))
   pub report : requestsAnswer s ≡ pick (isNoRecord s) 5 0
+  pub plan : (clock rate u2x : ℕ) → planAnswer clock rate u2x ≡ pick (isOutOfRange clock rate) 11 0
+  pub check : (clock rate u2x ubrr : ℕ) → checkAnswer clock rate u2x ubrr ≡ pick (isOutOfRange clock rate) 11 0

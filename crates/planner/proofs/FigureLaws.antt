@@ -1,5 +1,5 @@
 -- The figure that is shown is the nearest, halves away from zero, and no other figure is.
-use mathlib.Core.Path.{_≡_, ap, _∙_}
+use mathlib.Core.Path.{_≡_, refl, ap, _∙_}
 use lib.Signed.{mag}
 use Prim.Native.Nat.{ℕ, zero, suc, _+_, _-_, _*_, _/_, _^_, _≤_, _<_}
 use mir.Syntax.{w32}
@@ -39,16 +39,24 @@ module _ (c t : ℕ) (t1 : 1 ≤ t) where
   neg-pos zero h = absurd (omega arith)
   neg-pos (suc m) h = ap negsuc (omega arith)
 
+  -- the figure by its sign
+  figure-pos : t ≤ c → tenthsAt c t ≡ pos (((c - t) * 2000 + t) / (2 * t))
+  figure-pos h = rw (diff-pos c t h) refl
+
+  figure-neg : c < t → tenthsAt c t ≡ negℤ (pos (((t - c) * 2000 + t) / (2 * t)))
+  figure-neg l =
+      let m : ℕ = suc (t - suc c) * 2000 in
+      let e : suc (m - 1) + t ≡ (t - c) * 2000 + t = omega arith in
+      rw (diff-neg c t l, neg-pos m (omega arith)) (ap (λ (n : ℕ). negℤ (pos (n / (2 * t)))) e)
+
   by : Dec (t ≤ c) → Nearest c t (tenthsAt c t)
   by (yes h) =
       let x : ℕ = (c - t) * 2000 + t in
-      rw (diff-pos c t h) (at-pos (x / (2 * t)) h (mul-div-le x (2 * t)) (lt-mul-div-succ x (omega arith)))
+      rw (figure-pos h) (at-pos (x / (2 * t)) h (mul-div-le x (2 * t)) (lt-mul-div-succ x (omega arith)))
   by (no h) =
       let l : c < t = omega arith in
       let x : ℕ = (t - c) * 2000 + t in
-      let m : ℕ = suc (t - suc c) * 2000 in
-      let e : suc (m - 1) + t ≡ x = omega arith in
-      rw (diff-neg c t l, neg-pos m (omega arith), e) (at-neg (x / (2 * t)) l (mul-div-le x (2 * t)) (lt-mul-div-succ x (omega arith)))
+      rw (figure-neg l) (at-neg (x / (2 * t)) l (mul-div-le x (2 * t)) (lt-mul-div-succ x (omega arith)))
 
   pub nearest : Nearest c t (tenthsAt c t)
   nearest = by (decLe t c)
@@ -65,21 +73,18 @@ module _ (c t : ℕ) (t1 : 1 ≤ t) where
   only (negsuc b) (pos a) q p = absurd (clash a b (p .within) (q .within) (p .away (negsuc b) (q .within)))
 
   -- through the bits that hold the two calls' results
-  pub shown : (z r : ℤ) → z ≡ (pos c -ℤ pos t) *ℤ pos 2000 → mag z < 2 ^ 63 → r ≡ quotient (held z) t → mag r < 2 ^ 63 → held r ≡ tenthsAt c t
-  shown z r ez fz er fr = read r fr ∙ er ∙ ap (λ (x : ℤ). quotient x t) (read z fz ∙ ez)
+  pub shown : (half whole : ℕ) (z r : ℤ) → z ≡ (pos c -ℤ pos t) *ℤ pos 2000 → mag z < 2 ^ 63 → r ≡ quotient (held z) half whole → mag r < 2 ^ 63
+      → held r ≡ quotient ((pos c -ℤ pos t) *ℤ pos 2000) half whole
+  shown half whole z r ez fz er fr = read r fr ∙ er ∙ ap (λ (x : ℤ). quotient x half whole) (read z fz ∙ ez)
 
   -- how large the figure is where the clock is at most 5000 times T
   small-by : Dec (t ≤ c) → c ≤ 5000 * t → mag (tenthsAt c t) ≤ 5000000
-  small-by (yes h) b =
-      let x : ℕ = (c - t) * 2000 + t in
-      rw (diff-pos c t h) (div-le-of-le-mul (2 * t) (omega arith))
+  small-by (yes h) b = rw (figure-pos h) (div-le-of-le-mul (2 * t) (omega arith))
   small-by (no h) b =
       let l : c < t = omega arith in
       let x : ℕ = (t - c) * 2000 + t in
-      let m : ℕ = suc (t - suc c) * 2000 in
-      let e : suc (m - 1) + t ≡ x = omega arith in
       let g : x / (2 * t) ≤ 5000000 = div-le-of-le-mul (2 * t) (omega arith) in
-      rw (diff-neg c t l, neg-pos m (omega arith), e) (omega (arith, mag-neg (x / (2 * t))))
+      rw (figure-neg l) (omega (arith, mag-neg (x / (2 * t))))
 
   pub small : c ≤ 5000 * t → mag (tenthsAt c t) ≤ 5000000
   small b = small-by (decLe t c) b

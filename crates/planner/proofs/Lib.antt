@@ -1,3 +1,4 @@
+pub mod Examples
 pub mod ErrorLaws
 pub mod NeighbourLaws
 pub mod ChoiceLaws
@@ -5,4 +6,3 @@ pub mod SignedLaws
 pub mod FigureLaws
 pub mod Sizes
 pub mod PlanningLaws
-pub mod Examples

@@ -16,8 +16,8 @@ use borrow.Author.Tests.{leb-true, leb-false, le-leb, eqb-true, eqb-false}
 use Rattle.choice.specs.Pick.{pick, digit}
 use Rattle.choice.proofs.Picks.{both, pick-ind, pick-true, pick-false, split}
 use Rattle.answer.specs.declared.Refusal.the-variants.{Range}
-use Rattle.planner.specs.declared.planning.Planned.the-variants.{Done, Refused}
-use Rattle.planner.specs.declared.planning.Checked.the-variants.{Told, Refused as Untold}
+use Rattle.planner.specs.declared.outcome.Planned.the-variants.{Done, Refused}
+use Rattle.planner.specs.declared.outcome.Checked.the-variants.{Told, Refused as Untold}
 use Rattle.planner.specs.Setting.{samples, divisor, total, Best, Chosen}
 use Rattle.planner.specs.Figure.{tenthsAt}
 use Rattle.planner.specs.Planning.{isInRange, isLargerNoWorse, isSmallerNoWorse, isBestBy, isBestAt, ubrrBy, ubrrAt, plannedOf, checkedOf, acceptedOf, Plans, Checks, Refuses}

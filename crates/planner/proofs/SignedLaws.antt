@@ -20,8 +20,11 @@ held z = toZ w64 (ofZ w64 z)
 pub read : (z : ℤ) → mag z < 2 ^ 63 → held z ≡ z
 read z h = toZ-ofZ w64 z (record { sfits = h })
 
-sum-neg : (a d : ℕ) → 1 ≤ d → negsuc a -ℤ pos d ≡ negsuc (a + d)
-sum-neg a (suc e) h = ap negsuc (omega arith)
+sum-neg : (a d : ℕ) → negsuc a -ℤ pos d ≡ negsuc (a + d)
+sum-neg a zero =
+    let e : suc a - 1 ≡ a + 0 = omega arith in
+    rw (lt-ltb 0 (suc a) (omega arith)) (ap negsuc e)
+sum-neg a (suc e) = ap negsuc (omega arith)
 
 pub mag-neg : (n : ℕ) → mag (negℤ (pos n)) ≤ n
 mag-neg zero = omega arith
@@ -36,39 +39,39 @@ not-pos a h t =
     let z : _≡_ {A = ℕ} 0 1 = cc in
     omega arith
 
-module _ (d : ℕ) (d1 : 1 ≤ d) (dm : d ≤ 1000000000000) where
-  num-neg : (a : ℕ) → a ≤ 1000000000000000 → held (negsuc a) -ℤ toZ w64 d ≡ negsuc (a + d)
-  num-neg a h = rw (read (negsuc a) (omega arith), read (pos d) (omega arith)) (sum-neg a d d1)
+module _ (half whole : ℕ) (hm : half ≤ 1000000000000) (wm : whole ≤ 1000000000000) where
+  num-neg : (a : ℕ) → a ≤ 1000000000000000 → held (negsuc a) -ℤ toZ w64 half ≡ negsuc (a + half)
+  num-neg a h = rw (read (negsuc a) (omega arith), read (pos half) (omega arith)) (sum-neg a half)
 
-  num-pos : (a : ℕ) → a ≤ 1000000000000000 → held (pos a) +ℤ toZ w64 d ≡ pos (a + d)
-  num-pos a h = rw (read (pos a) (omega arith), read (pos d) (omega arith)) refl
+  num-pos : (a : ℕ) → a ≤ 1000000000000000 → held (pos a) +ℤ toZ w64 half ≡ pos (a + half)
+  num-pos a h = rw (read (pos a) (omega arith), read (pos half) (omega arith)) refl
 
   -- the two quotients of `rounded`
-  value-neg : (a : ℕ) → a ≤ 1000000000000000 → quotZ (held (held (negsuc a) -ℤ toZ w64 d)) (toZ w64 (2 * d)) ≡ quotient (negsuc a) d
+  value-neg : (a : ℕ) → a ≤ 1000000000000000 → quotZ (held (held (negsuc a) -ℤ toZ w64 half)) (toZ w64 whole) ≡ quotient (negsuc a) half whole
   value-neg a h =
-      let e : suc (a + d) ≡ suc a + d = omega arith in
-      rw (num-neg a h, read (negsuc (a + d)) (omega arith), read (pos (2 * d)) (omega arith)) (ap (λ n. negℤ (pos (n / (2 * d)))) e)
+      let e : suc (a + half) ≡ suc a + half = omega arith in
+      rw (num-neg a h, read (negsuc (a + half)) (omega arith), read (pos whole) (omega arith)) (ap (λ n. negℤ (pos (n / whole))) e)
 
-  value-pos : (a : ℕ) → a ≤ 1000000000000000 → quotZ (held (held (pos a) +ℤ toZ w64 d)) (toZ w64 (2 * d)) ≡ quotient (pos a) d
-  value-pos a h = rw (num-pos a h, read (pos (a + d)) (omega arith), read (pos (2 * d)) (omega arith)) refl
+  value-pos : (a : ℕ) → a ≤ 1000000000000000 → quotZ (held (held (pos a) +ℤ toZ w64 half)) (toZ w64 whole) ≡ quotient (pos a) half whole
+  value-pos a h = rw (num-pos a h, read (pos (a + half)) (omega arith), read (pos whole) (omega arith)) refl
 
-  pub quotient-fits : (x : ℤ) → mag x ≤ 1000000000000000 → SFits w64 (quotient x d)
-  quotient-fits (pos a) h = record { sfits = omega (arith, div-le-self (a + d) (2 * d)) }
-  quotient-fits (negsuc a) h = record { sfits = omega (arith, mag-neg ((suc a + d) / (2 * d)), div-le-self (suc a + d) (2 * d)) }
+  pub quotient-fits : (x : ℤ) → mag x ≤ 1000000000000000 → SFits w64 (quotient x half whole)
+  quotient-fits (pos a) h = record { sfits = omega (arith, div-le-self (a + half) whole) }
+  quotient-fits (negsuc a) h = record { sfits = omega (arith, mag-neg ((suc a + half) / whole), div-le-self (suc a + half) whole) }
 
-  pub sub-fits : (x : ℤ) → mag x ≤ 1000000000000000 → ltZ (held x) (pos 0) ≡ true → SFits w64 (held x -ℤ toZ w64 d)
+  pub sub-fits : (x : ℤ) → mag x ≤ 1000000000000000 → ltZ (held x) (pos 0) ≡ true → SFits w64 (held x -ℤ toZ w64 half)
   sub-fits (pos a) h t = absurd (not-neg a h t)
   sub-fits (negsuc a) h t = rw (num-neg a h) (record { sfits = omega arith })
 
-  pub add-fits : (x : ℤ) → mag x ≤ 1000000000000000 → ltZ (held x) (pos 0) ≡ false → SFits w64 (held x +ℤ toZ w64 d)
+  pub add-fits : (x : ℤ) → mag x ≤ 1000000000000000 → ltZ (held x) (pos 0) ≡ false → SFits w64 (held x +ℤ toZ w64 half)
   add-fits (pos a) h t = rw (num-pos a h) (record { sfits = omega arith })
   add-fits (negsuc a) h t = absurd (not-pos a h t)
 
-  pub less-value : (x : ℤ) → mag x ≤ 1000000000000000 → ltZ (held x) (pos 0) ≡ true → quotZ (held (held x -ℤ toZ w64 d)) (toZ w64 (2 * d)) ≡ quotient x d
+  pub less-value : (x : ℤ) → mag x ≤ 1000000000000000 → ltZ (held x) (pos 0) ≡ true → quotZ (held (held x -ℤ toZ w64 half)) (toZ w64 whole) ≡ quotient x half whole
   less-value (pos a) h t = absurd (not-neg a h t)
   less-value (negsuc a) h t = value-neg a h
 
-  pub more-value : (x : ℤ) → mag x ≤ 1000000000000000 → ltZ (held x) (pos 0) ≡ false → quotZ (held (held x +ℤ toZ w64 d)) (toZ w64 (2 * d)) ≡ quotient x d
+  pub more-value : (x : ℤ) → mag x ≤ 1000000000000000 → ltZ (held x) (pos 0) ≡ false → quotZ (held (held x +ℤ toZ w64 half)) (toZ w64 whole) ≡ quotient x half whole
   more-value (pos a) h t = value-pos a h
   more-value (negsuc a) h t = absurd (not-pos a h t)
 

@@ -14,11 +14,12 @@ pub record Nearest (clock T : ℕ) (e : ℤ) : Type 0 where
   pub within : Within clock T e
   pub away : (f : ℤ) → Within clock T f → natAbs f ≤ natAbs e
 
--- x/2d to the nearest, halves away from zero
-abbrev pub quotient : ℤ → ℕ → ℤ
-quotient (pos a) d = pos ((a + d) / (2 * d))
-quotient (negsuc a) d = negℤ (pos ((suc a + d) / (2 * d)))
+-- x/whole, its fraction dropped, half being added first on the side away from zero: where half is half the whole this is the nearest,
+-- halves away from zero
+abbrev pub quotient : ℤ → ℕ → ℕ → ℤ
+quotient (pos a) half whole = pos ((a + half) / whole)
+quotient (negsuc a) half whole = negℤ (pos ((suc a + half) / whole))
 
--- 1000·(clock − T)/T, rounded so
+-- 1000·(clock − T)/T, rounded so; both are doubled, so that half of T is whole
 abbrev pub tenthsAt : ℕ → ℕ → ℤ
-tenthsAt clock T = quotient ((pos clock -ℤ pos T) *ℤ pos 2000) T
+tenthsAt clock T = quotient ((pos clock -ℤ pos T) *ℤ pos 2000) T (2 * T)

@@ -10,10 +10,10 @@ use Rattle.answer.specs.Number.{numberOf}
 use Rattle.answer.specs.declared.Refusal.the-variants.{Range}
 use Rattle.planner.specs.Setting.{samples, total, Best, Chosen}
 use Rattle.planner.specs.Figure.{Nearest, tenthsAt}
-use Rattle.planner.specs.declared.planning.Planned.{Planned}
-use Rattle.planner.specs.declared.planning.Planned.the-variants.{Done, Refused}
-use Rattle.planner.specs.declared.planning.Checked.{Checked}
-use Rattle.planner.specs.declared.planning.Checked.the-variants.{Told, Refused as Untold}
+use Rattle.planner.specs.declared.outcome.Planned.{Planned}
+use Rattle.planner.specs.declared.outcome.Planned.the-variants.{Done, Refused}
+use Rattle.planner.specs.declared.outcome.Checked.{Checked}
+use Rattle.planner.specs.declared.outcome.Checked.the-variants.{Told, Refused as Untold}
 
 -- 'For a clock of 1 to 20,000,000 Hz and a rate of 1 to 2,500,000'
 abbrev pub isInRange : ℕ → ℕ → Bool

@@ -5,19 +5,20 @@ ghost use lib.IntN.{pos, _-ℤ_, _*ℤ_};
 ghost use lib.Signed.{mag};
 ghost use Rattle.planner.specs.Figure.{quotient, tenthsAt};
 
-// x / 2d to the nearest, halves away from zero: d, half the divisor, is added on the side away from zero, and the division drops the fraction.
-fn rounded(x: i64, d: u64) -> i64
+// x / whole, the fraction dropped, half being added first on the side away from zero.
+fn rounded(x: i64, half: u64, whole: u64) -> i64
     requires { ⌜ mag x ≤ 1000000000000000 ⌝ }
-    requires { ⌜ 1 ≤ d ⌝ }
-    requires { ⌜ d ≤ 1000000000000 ⌝ }
-    ensures { λ r. ⌜ r ≡ quotient x d ⌝ }
+    requires { ⌜ half ≤ 1000000000000 ⌝ }
+    requires { ⌜ 1 ≤ whole ⌝ }
+    requires { ⌜ whole ≤ 1000000000000 ⌝ }
+    ensures { λ r. ⌜ r ≡ quotient x half whole ⌝ }
 {
-    let half = d as i64;
-    let whole = (2 * d) as i64;
+    let h = half as i64;
+    let w = whole as i64;
     if x < 0 {
-        return (x - half) / whole;
+        return (x - h) / w;
     }
-    (x + half) / whole
+    (x + h) / w
 }
 
 // 2000·(clock − t).
@@ -37,7 +38,7 @@ fn wide_tenths(clock: u64, t: u64) -> i64
     requires { ⌜ 1 ≤ t ⌝ }
     ensures { λ r. ⌜ r ≡ tenthsAt clock t ⌝ }
 {
-    rounded(scaled(clock, t), t)
+    rounded(scaled(clock, t), t, 2 * t)
 }
 
 // Where the clock is at most 5000 times t, as it is at a best UBRR: there the figure is from -1000 to 609,352.

@@ -2,11 +2,12 @@
 // no device.
 mod choose;
 mod figure;
+mod outcome;
 mod planning;
 mod setting;
 
-pub use planning::Checked;
-pub use planning::Planned;
+pub use outcome::Checked;
+pub use outcome::Planned;
 pub use planning::check;
 pub use planning::plan;
 pub use setting::divisor;

@@ -1,23 +1,13 @@
 use crate::choose::best_ubrr;
 use crate::choose::is_best;
 use crate::figure::tenths;
+use crate::outcome::Checked;
+use crate::outcome::Planned;
 use crate::setting::divisor;
 use crate::setting::samples;
 use answer::Refusal;
 ghost use mathlib.Core.Path.{_≡_};
 ghost use Rattle.planner.specs.Planning.{isInRange, plannedOf, checkedOf};
-
-pub enum Planned {
-    // UBRR, and its error in tenths of a percent.
-    Done(u16, i32),
-    Refused(Refusal),
-}
-
-pub enum Checked {
-    // Whether the proposal is accepted.
-    Told(bool),
-    Refused(Refusal),
-}
 
 fn is_in_range(clock: u32, rate: u32) -> bool
     ensures { λ r. ⌜ r ≡ isInRange clock rate ⌝ }
