@@ -17,23 +17,33 @@ enum {
     TICKS = 16,
     FRAME_BITS = 10,
     FRAME_CLOCKS = FRAME_BITS * TICKS, /* at UBRR 0 */
-    BYTE = 0x65
+    BYTE = 0x65,
+    REPEATED = 50
 };
 
-/* A round is so many calls on a device that is as it was before. */
+enum kind { RUN, REPORT, PLAN, CHECK };
+
+/* A round is so many calls on a device that is as it was before, or on a clock and a rate. */
 struct row {
     const char *name;
-    bool report, traffic;
-    uint8_t ubrr;
+    enum kind kind;
+    bool traffic;
+    uint16_t ubrr;
+    uint32_t clock, rate;
     size_t calls;
 };
 
 static const struct row ROWS[] = {
-    {.name = "report, idle, UBRR 51", .report = true, .ubrr = SLOW, .calls = SLOW + 1},
+    {.name = "report, idle, UBRR 51", .kind = REPORT, .ubrr = SLOW, .calls = SLOW + 1},
     {.name = "run of one clock, idle, UBRR 51", .ubrr = SLOW, .calls = SLOW + 1},
     {.name = "run of one clock, idle, UBRR 0", .ubrr = 0, .calls = TICKS},
     {.name = "run of one clock, full duplex, UBRR 0", .ubrr = 0, .traffic = true, .calls = FRAME_CLOCKS},
     {.name = "run of one clock, both frames begin, UBRR 0", .ubrr = 0, .traffic = true, .calls = 1},
+    {.name = "plan of a baud setting, UBRR 0", .kind = PLAN, .clock = 16, .rate = 1, .calls = REPEATED},
+    {.name = "plan of a baud setting, UBRR 8", .kind = PLAN, .clock = 16000000, .rate = 115200, .calls = REPEATED},
+    {.name = "plan of a baud setting, UBRR 4095", .kind = PLAN, .clock = 20000000, .rate = 1, .calls = REPEATED},
+    {.name = "check of UBRR 8", .kind = CHECK, .ubrr = 8, .clock = 16000000, .rate = 115200, .calls = REPEATED},
+    {.name = "check of UBRR 4095", .kind = CHECK, .ubrr = 4095, .clock = 20000000, .rate = 1, .calls = REPEATED},
 };
 
 enum { ROW_COUNT = sizeof ROWS / sizeof *ROWS };
@@ -48,7 +58,7 @@ static uint8_t run(uint8_t *record, uint8_t level)
 static uint8_t make(const struct row *row, uint8_t *record)
 {
     uint8_t refused = warpmagpie_reset(record, LEN);
-    refused |= warpmagpie_write(record, LEN, WARPMAGPIE_UBRR0L, row->ubrr);
+    refused |= warpmagpie_write(record, LEN, WARPMAGPIE_UBRR0L, (uint8_t)row->ubrr);
     refused |= warpmagpie_write(record, LEN, WARPMAGPIE_UCSR0B, WARPMAGPIE_RXEN | WARPMAGPIE_TXEN);
     for (int clock = 0; clock <= row->ubrr; clock++)
         refused |= run(record, IDLE);
@@ -65,14 +75,27 @@ static void draw(const struct row *row, uint8_t *levels)
     }
 }
 
+static uint8_t call(const struct row *row, uint8_t *record, uint8_t level)
+{
+    uint8_t byte;
+    uint16_t ubrr;
+    int32_t tenths;
+    switch (row->kind) {
+    case RUN: return run(record, level);
+    case REPORT: return warpmagpie_requests(record, LEN, &byte);
+    case PLAN: return warpmagpie_plan_baud(row->clock, row->rate, 0, &ubrr, &tenths);
+    default: return warpmagpie_check_baud(row->clock, row->rate, 0, row->ubrr, &byte);
+    }
+}
+
 static uint8_t repeat(const struct row *row, unsigned long rounds)
 {
-    uint8_t start[LEN], record[LEN], levels[FRAME_CLOCKS], requests, refused = make(row, start);
+    uint8_t start[LEN], record[LEN], levels[FRAME_CLOCKS], refused = make(row, start);
     draw(row, levels);
     for (unsigned long round = 0; round < rounds; round++) {
         memcpy(record, start, LEN);
-        for (size_t call = 0; call < row->calls; call++)
-            refused |= row->report ? warpmagpie_requests(record, LEN, &requests) : run(record, levels[call]);
+        for (size_t i = 0; i < row->calls; i++)
+            refused |= call(row, record, levels[i]);
     }
     return refused;
 }

@@ -1,5 +1,5 @@
-/* What the six calls do at the C boundary: with every length of record, levels and outputs, every address and vector, any bytes. Exits with
-   1 at the first difference.
+/* What the eight calls do at the C boundary: with every length of record, levels and outputs, every address and vector,
+   any bytes, and every byte as U2X. Exits with 1 at the first difference.
 
    All is done twice: between guard bytes, which this program looks at itself, and in memory of exactly the length that the call is told, so
    that valgrind sees a byte too far. Usage: boundary [short]; short tries a part of the addresses and of the runs. */
@@ -523,6 +523,45 @@ static void copies(const struct plan *plan)
     }
 }
 
+/* The calls that choose a baud setting store exactly their answers: UBRR, tenths of a percent, yes or no. */
+static void bauds(const struct plan *plan)
+{
+    static const struct {
+        uint32_t clock, rate;
+        uint8_t number, accepted;
+        uint16_t ubrr[2];
+        int32_t tenths[2]; /* at normal and at double speed */
+    } CASES[] = {
+        {16000000, 115200, WARPMAGPIE_DONE, 1, {8, 16}, {-35, 21}},
+        {15992, 1000, WARPMAGPIE_DONE, 1, {0, 1}, {-1, -1}},
+        {64, 3, WARPMAGPIE_DONE, 1, {1, 2}, {-333, -111}},
+        {20000000, 1, WARPMAGPIE_DONE, 1, {4095, 4095}, {304176, 609352}},
+        {20000001, 115200, WARPMAGPIE_REFUSED_RANGE, 0, {0, 0}, {0, 0}},
+        {16000000, 2500001, WARPMAGPIE_REFUSED_RANGE, 0, {0, 0}, {0, 0}},
+        {0, UINT32_MAX, WARPMAGPIE_REFUSED_RANGE, 0, {0, 0}, {0, 0}},
+    };
+    for (size_t i = 0; i < COUNT(CASES); i++)
+        for (unsigned u2x = 0; u2x < BYTES; u2x++) {
+            struct piece ubrr = make_filled(GUARD, sizeof(uint16_t), plan->guard);
+            struct piece tenths = make_filled(GUARD, sizeof(int32_t), plan->guard);
+            struct piece accepted = make_filled(GUARD, sizeof(uint8_t), plan->guard);
+            uint32_t clock = CASES[i].clock, rate = CASES[i].rate;
+            uint16_t wanted = CASES[i].ubrr[u2x > 0];
+            expect("plan of a baud setting", i,
+                   warpmagpie_plan_baud(clock, rate, (uint8_t)u2x, (uint16_t *)(void *)ubrr.bytes,
+                                        (int32_t *)(void *)tenths.bytes),
+                   CASES[i].number);
+            expect("check of a baud setting", i,
+                   warpmagpie_check_baud(clock, rate, (uint8_t)u2x, wanted, accepted.bytes), CASES[i].number);
+            holds("UBRR", i, &ubrr, (const uint8_t *)&wanted);
+            holds("tenths of a percent", i, &tenths, (const uint8_t *)&CASES[i].tenths[u2x > 0]);
+            holds("accepted", i, &accepted, &CASES[i].accepted);
+            drop(&ubrr);
+            drop(&tenths);
+            drop(&accepted);
+        }
+}
+
 int main(int argc, char **argv)
 {
     struct plan plan = {.stride = argc > 1 && strcmp(argv[1], "short") == 0 ? SHORT_STRIDE : 1};
@@ -539,6 +578,7 @@ int main(int argc, char **argv)
         addresses(&plan);
         vectors(&plan);
         copies(&plan);
+        bauds(&plan);
     }
     return 0;
 }
