@@ -1,0 +1,100 @@
+//! Compares the archive's planner and check of baud settings (document 02, M-104) with the model in model/baud.rs: the
+//! request's examples, the rows of the source documents, the ends of the ranges, ties, halves, random settings.
+//!
+//! baud [--seed N] [--scale K]
+
+#[forbid(unsafe_code)]
+#[path = "model/baud.rs"]
+mod model;
+
+#[path = "baud/archive.rs"]
+mod archive;
+#[path = "baud/calls.rs"]
+mod calls;
+#[path = "baud/edges.rs"]
+mod edges;
+#[path = "baud/examples.rs"]
+mod examples;
+#[path = "baud/halves.rs"]
+mod halves;
+#[path = "baud/itself.rs"]
+mod itself;
+#[path = "baud/mixed.rs"]
+mod mixed;
+#[path = "compare/random.rs"]
+mod random;
+#[path = "baud/rows.rs"]
+mod rows;
+#[path = "baud/sweep.rs"]
+mod sweep;
+#[path = "baud/tally.rs"]
+mod tally;
+#[path = "baud/ties.rs"]
+mod ties;
+
+use calls::Calls;
+use random::Random;
+use tally::Tally;
+
+const SEED: u64 = 20240611;
+
+const ARCHIVE: Calls = Calls {
+    plan: archive::plan,
+    check: archive::check,
+};
+
+/// One kind of inputs, and how many rounds of them are done at scale 1.
+#[derive(Clone, Copy)]
+struct Part {
+    name: &'static str,
+    run: fn(&Calls, u64, &mut Random, &mut Tally) -> Result<(), String>,
+    rounds: u64,
+}
+
+const PARTS: [Part; 8] = [
+    examples::PART,
+    rows::PART,
+    edges::PART,
+    ties::PART,
+    halves::PART,
+    mixed::PART,
+    sweep::PART,
+    itself::PART,
+];
+
+fn main() {
+    let outcome = arguments().and_then(|(seed, scale)| {
+        compare_all(seed, scale).map_err(|text| format!("seed {seed}, scale {scale}, {text}"))
+    });
+    if let Err(text) = outcome {
+        println!("baud: {text}");
+        std::process::exit(1);
+    }
+}
+
+fn arguments() -> Result<(u64, u64), String> {
+    let (mut seed, mut scale) = (SEED, 1);
+    let mut words = std::env::args().skip(1);
+    while let Some(word) = words.next() {
+        let value = words.next().and_then(|value| value.parse().ok());
+        match (word.as_str(), value) {
+            ("--seed", Some(value)) => seed = value,
+            ("--scale", Some(value)) if value > 0 => scale = value,
+            _ => return Err("usage: baud [--seed N] [--scale K]".to_string()),
+        }
+    }
+    Ok((seed, scale))
+}
+
+fn compare_all(seed: u64, scale: u64) -> Result<(), String> {
+    let mut tally = Tally::default();
+    for (number, part) in PARTS.iter().enumerate() {
+        // A part's own random numbers, so that a change in one leaves the others alone.
+        let mut random = Random::new(seed.wrapping_mul(8).wrapping_add(number as u64));
+        (part.run)(&ARCHIVE, part.rounds * scale, &mut random, &mut tally)
+            .map_err(|text| format!("{}: {text}", part.name))?;
+    }
+    tally.complete()?;
+    tally.print();
+    Ok(())
+}
