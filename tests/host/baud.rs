@@ -1,5 +1,6 @@
 //! Compares the archive's planner and check of baud settings (document 02, M-104) with the model in model/baud.rs: the
-//! request's examples, the rows of the source documents, the ends of the ranges, ties, halves, random settings.
+//! request's examples, the rows of the source documents, the ends of the ranges, ties, halves, random settings. Then
+//! programs that are wrong on purpose take the archive's place, and each has to be seen.
 //!
 //! baud [--seed N] [--scale K]
 
@@ -31,6 +32,12 @@ mod sweep;
 mod tally;
 #[path = "baud/ties.rs"]
 mod ties;
+#[path = "baud/wrong.rs"]
+mod wrong;
+#[path = "baud/wrong_checks.rs"]
+mod wrong_checks;
+#[path = "baud/wrong_plans.rs"]
+mod wrong_plans;
 
 use calls::Calls;
 use random::Random;
@@ -95,6 +102,7 @@ fn compare_all(seed: u64, scale: u64) -> Result<(), String> {
             .map_err(|text| format!("{}: {text}", part.name))?;
     }
     tally.complete()?;
-    tally.print();
+    let wrong = wrong::all_are_seen(seed)?;
+    tally.print(wrong);
     Ok(())
 }

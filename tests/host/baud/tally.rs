@@ -36,7 +36,8 @@ impl Tally {
         }
     }
 
-    pub fn print(&self) {
+    /// So many wrong programs were seen too.
+    pub fn print(&self, wrong: usize) {
         println!(
             "baud: {} rows of 000 and 001, {} plans ({} of them 11), {} checks ({} of them 11, {} yes)",
             self.rows,
@@ -47,7 +48,8 @@ impl Tally {
             self.accepted
         );
         println!(
-            "baud: {} ties constructed, {} met by search, {} halves above, {} below: no difference",
+            "baud: {} ties constructed, {} met by search, {} halves above, {} below: no difference; \
+             {wrong} wrong programs seen",
             self.ties, self.ties_searched, self.halves_above, self.halves_below
         );
     }
