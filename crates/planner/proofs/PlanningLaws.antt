@@ -20,11 +20,11 @@ use Rattle.planner.specs.declared.outcome.Planned.the-variants.{Done, Re
 use Rattle.planner.specs.declared.outcome.Checked.the-variants.{Told, Refused as Untold}
 use Rattle.planner.specs.Setting.{samples, divisor, total, Best, Chosen}
 use Rattle.planner.specs.Figure.{tenthsAt}
-use Rattle.planner.specs.Planning.{isInRange, isLargerNoWorse, isSmallerNoWorse, isBestBy, isBestAt, ubrrBy, ubrrAt, plannedOf, checkedOf, acceptedOf, Plans, Checks, Refuses}
+use Rattle.planner.specs.Planning.{isInRange, isLargerNoWorse, isSmallerNoWorse, isBestBy, isBestAt, ubrrBy, ubrrAt, plannedOf, tenthsOf, checkedOf, acceptedOf, Plans, Checks, Refuses}
 use Rattle.planner.proofs.Sizes.{Sizes, in-range, step-least, total-least, total-most}
 use Rattle.planner.proofs.NeighbourLaws.{best-of, best-larger, best-smaller}
 use Rattle.planner.proofs.ChoiceLaws.{chosen-last, chosen-same, chosen-less}
-use Rattle.planner.proofs.FigureLaws.{nearest}
+use Rattle.planner.proofs.FigureLaws.{nearest, small}
 
 module _ (clock S rate : ℕ) (z : Sizes clock S rate) where
   k-least : 1 ≤ S * rate
@@ -152,6 +152,16 @@ module _ (clock rate u2x : ℕ) where
         accepted = rw (planned h) (checks ubrr h .exactly .1 (c .best));
         nearest = rw (planned h) (nearest clock (total (samples u2x) rate ubrr) (total-least ubrr (z .S-least) (z .rate-least)));
       }
+
+  -- every figure fits 32 bits
+  pub figure-small : mag (tenthsOf (plannedOf clock rate u2x)) ≤ 5000000
+  figure-small = split (isInRange clock rate) inside (λ h. rw (unplanned h) (omega arith))
+    where
+      inside : isInRange clock rate ≡ true → mag (tenthsOf (plannedOf clock rate u2x)) ≤ 5000000
+      inside h =
+          let z = in-range clock rate u2x h in
+          let b = chosen-at clock (samples u2x) rate z .best in
+          rw (planned h) (small clock (total (samples u2x) rate ubrr) (total-least ubrr (z .S-least) (z .rate-least)) (best-clock clock (samples u2x) rate z ubrr b))
 
   pub refuses : (u : ℕ) → isInRange clock rate ≡ false → Refuses clock rate u2x u
   refuses u h =
