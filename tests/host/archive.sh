@@ -5,7 +5,7 @@ set -eu
 cd "$(dirname "$0")/../.."
 bash scripts/archive.sh
 archive=target/staticlib/libwarpmagpie.a
-bound=20000 # bytes of code and constants, of which there are 16237; the README says 16 kB
+bound=20000 # bytes of code and constants, of which there are 16711; the README says 17 kB
 fail() { echo "archive: $*"; exit 1; }
 scratch=$(mktemp -d)
 trap 'rm -rf "$scratch"' EXIT

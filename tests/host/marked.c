@@ -127,7 +127,13 @@ static void refusals(void)
     expect("setting under way", warpmagpie_write(record, sizeof record, WARPMAGPIE_UBRR0L, 7),
            WARPMAGPIE_REFUSED_UNDER_WAY);
     expect("record untouched", (unsigned)memcmp(before, record, sizeof before), 0);
-    puts("refusals 1 to 8: numbers as given, nothing touched");
+    uint16_t ubrr = 9;
+    int32_t tenths = 9;
+    expect("rate out of range", warpmagpie_plan_baud(16000000, 2500001, 0, &ubrr, &tenths), WARPMAGPIE_REFUSED_RANGE);
+    expect("answers of a refused plan", ubrr != 0 || tenths != 0, 0);
+    expect("clock out of range", warpmagpie_check_baud(0, 9600, 0, 51, &value), WARPMAGPIE_REFUSED_RANGE);
+    expect("answer of a refused check", value, 0);
+    puts("refusals 1 to 8 and 11: numbers as given, nothing touched");
 }
 
 int main(void)
