@@ -1,4 +1,4 @@
-pub mod Examples
+pub mod Cases
 pub mod ErrorLaws
 pub mod NeighbourLaws
 pub mod ChoiceLaws
