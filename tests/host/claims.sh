@@ -211,7 +211,7 @@ for file in crates/*/must-fail/*.edit refutations/*.refutation tests/host/*.sh; 
         failed=1
     fi
 done
-# The refutations but one are proved outside the gate; that each has its edits is seen here.
+# Most refutations are proved outside the gate; that each has its edits is seen here.
 for file in refutations/*.refutation; do
     for edit in $(sed -n 's/^edit: //p' "$file"); do
         edit=crates/$(sed -n 's/^crate: //p' "$file")/must-fail/$edit.edit

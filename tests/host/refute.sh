@@ -1,5 +1,5 @@
 #!/usr/bin/env bash
-# One refutation of a wrong program, the cheapest, so that the way of refuting does not go stale. 'make refute' does all.
+# The cheapest refutations of wrong programs, so that the way of refuting does not go stale. 'make refute' does all.
 set -eu
 cd "$(dirname "$0")/../.."
-bash scripts/refute.sh fixed_answer
+bash scripts/refute.sh fixed_answer wrong_planners
