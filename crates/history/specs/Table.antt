@@ -1,6 +1,6 @@
--- The table of numbers, document 01's and what document 02 adds: for each number its condition, by itself, and for each exported call
--- its numbers in the order given there, of which the first whose condition holds is the answer, else 0. The record is any bytes; the last
--- two calls take none.
+-- The table of numbers, document 01's and what document 02 adds: for each number its condition, by itself, and for each
+-- exported call its numbers in the order given there, of which the first whose condition holds is the answer, else 0. The
+-- record is any bytes; the last two calls take none.
 use Prim.Native.Nat.{ℕ, _/_, _<_}
 use mathlib.Core.Bool.{Bool, true, false, not, _&&_, _||_}
 use mathlib.Core.List.{List, [], _∷_}

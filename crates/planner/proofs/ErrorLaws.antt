@@ -1,5 +1,5 @@
--- The absolute error |clock/T − 1| over T, compared without division: of two T's x < y the first is no worse exactly when
--- clock·(x + y) ≤ 2·x·y, that is when clock/x − 1 and clock/y − 1 have a sum that is not above 0.
+-- The absolute error |clock/T − 1| over T, compared without division: of two T's x < y the first is no worse exactly
+-- when clock·(x + y) ≤ 2·x·y, that is when clock/x − 1 and clock/y − 1 have a sum that is not above 0.
 use mathlib.Core.Path.{_≡_, ap}
 use Prim.Native.Nat.{ℕ, _+_, _*_, _≤_, _<_}
 use native.Mathlib.Nat.{mul-le-mul-left, mul-le-mul-right, mul-lt-mul-of-pos-left, mul-lt-mul-of-pos-right, le-of-mul-le-mul-left}

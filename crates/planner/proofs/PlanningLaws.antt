@@ -2,7 +2,7 @@
 use mathlib.Core.Path.{_≡_, refl, ap, sym, _∙_}
 use mathlib.Core.Bool.{Bool, true, false}
 use mathlib.Core.Logic.{_↔_}
-use Prim.Native.Nat.{ℕ, zero, suc, _+_, _*_, _/_, _^_, _≤_, _<_}
+use Prim.Native.Nat.{ℕ, _+_, _*_, _/_, _^_, _≤_, _<_}
 use native.Mathlib.Nat.{le-of-mul-le-mul-right}
 use native.Mathlib.Omega.{arith}
 use native.Mathlib.Decide.{decLt}
@@ -20,7 +20,8 @@ use Rattle.planner.specs.declared.outcome.Planned.the-variants.{Done, Re
 use Rattle.planner.specs.declared.outcome.Checked.the-variants.{Told, Refused as Untold}
 use Rattle.planner.specs.Setting.{samples, divisor, total, Best, Chosen}
 use Rattle.planner.specs.Figure.{tenthsAt}
-use Rattle.planner.specs.Planning.{isInRange, isLargerNoWorse, isSmallerNoWorse, isBestBy, isBestAt, ubrrBy, ubrrAt, plannedOf, tenthsOf, checkedOf, acceptedOf, Plans, Checks, Refuses}
+use Rattle.planner.specs.Neighbour.{isLargerNoWorse, isSmallerNoWorse, isBestBy, isBestAt, ubrrBy, ubrrAt}
+use Rattle.planner.specs.Planning.{isInRange, plannedOf, tenthsOf, checkedOf, Plans, Checks, Refuses}
 use Rattle.planner.proofs.Sizes.{Sizes, in-range, step-least, total-least, total-most}
 use Rattle.planner.proofs.NeighbourLaws.{best-of, best-larger, best-smaller}
 use Rattle.planner.proofs.ChoiceLaws.{chosen-last, chosen-same, chosen-less}

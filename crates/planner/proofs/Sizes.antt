@@ -7,8 +7,9 @@ use native.Mathlib.Omega.{arith}
 use lib.Dec.{eqb, leb}
 use borrow.Author.Tests.{leb-true, leb-false}
 use Rattle.choice.proofs.Picks.{both, pick-ind}
-use Rattle.planner.specs.Setting.{samples, divisor, total}
-use Rattle.planner.specs.Planning.{isInRange, isLargerNoWorse}
+use Rattle.planner.specs.Setting.{samples, total}
+use Rattle.planner.specs.Neighbour.{isLargerNoWorse}
+use Rattle.planner.specs.Planning.{isInRange}
 
 -- a clock and a rate in range, and S
 pub record Sizes (clock S rate : ℕ) : Type 0 where

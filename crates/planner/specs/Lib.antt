@@ -1,3 +1,4 @@
 pub mod Setting
 pub mod Figure
+pub mod Neighbour
 pub mod Planning

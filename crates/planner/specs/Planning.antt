@@ -1,14 +1,15 @@
 -- What planner and check answer (document 02, M-104).
 use mathlib.Core.Path.{_≡_}
-use mathlib.Core.Bool.{Bool, true, false}
+use mathlib.Core.Bool.{Bool, false}
 use mathlib.Core.Logic.{_↔_}
-use Prim.Native.Nat.{ℕ, _+_, _-_, _*_, _/_, _≤_}
-use lib.Dec.{eqb, leb}
+use Prim.Native.Nat.{ℕ, _≤_}
+use lib.Dec.{leb}
 use lib.IntN.{ℤ, pos}
 use Rattle.choice.specs.Pick.{pick, digit}
 use Rattle.answer.specs.Number.{numberOf}
 use Rattle.answer.specs.declared.Refusal.the-variants.{Range}
 use Rattle.planner.specs.Setting.{samples, total, Best, Chosen}
+use Rattle.planner.specs.Neighbour.{isBestAt, ubrrAt}
 use Rattle.planner.specs.Figure.{Nearest, tenthsAt}
 use Rattle.planner.specs.declared.outcome.Planned.{Planned}
 use Rattle.planner.specs.declared.outcome.Planned.the-variants.{Done, Refused}
@@ -18,29 +19,6 @@ use Rattle.planner.specs.declared.outcome.Checked.the-variants.{Told, Re
 -- 'For a clock of 1 to 20,000,000 Hz and a rate of 1 to 2,500,000'
 abbrev pub isInRange : ℕ → ℕ → Bool
 isInRange clock rate = pick (leb 1 clock) (pick (leb clock 20000000) (pick (leb 1 rate) (leb rate 2500000) false) false) false
-
--- A means, no rule: of the divisors m and m + 1, T being k times the divisor, the larger has no larger absolute error; the smaller has none.
--- (clock/km − 1 and clock/k(m + 1) − 1 have a sum that is not below 0, not above it.)
-abbrev pub isLargerNoWorse : ℕ → ℕ → ℕ → Bool
-isLargerNoWorse clock k m = leb (2 * (k * (m * (m + 1)))) (clock * (m + (m + 1)))
-
-abbrev pub isSmallerNoWorse : ℕ → ℕ → ℕ → Bool
-isSmallerNoWorse clock k m = leb (clock * (m + (m + 1))) (2 * (k * (m * (m + 1))))
-
--- .. so a UBRR is best if neither neighbour betters it; 4,095 has none above it
-abbrev pub isBestBy : ℕ → ℕ → ℕ → Bool
-isBestBy clock k ubrr =
-    pick (leb ubrr 4095) (pick (isLargerNoWorse clock k ubrr) (pick (eqb ubrr 4095) true (isSmallerNoWorse clock k (ubrr + 1))) false) false
-
--- .. and the divisor is the whole part q of clock/k, or one more where that is no worse; UBRR is one less than the divisor
-abbrev pub ubrrBy : ℕ → ℕ → ℕ → ℕ
-ubrrBy clock k q = pick (leb 4096 q) 4095 (pick (isLargerNoWorse clock k q) q (q - 1))
-
-abbrev pub isBestAt : ℕ → ℕ → ℕ → ℕ → Bool
-isBestAt clock S rate ubrr = isBestBy clock (S * rate) ubrr
-
-abbrev pub ubrrAt : ℕ → ℕ → ℕ → ℕ
-ubrrAt clock S rate = ubrrBy clock (S * rate) (clock / (S * rate))
 
 -- the planner: a UBRR and its error
 unfoldable pub plannedOf : ℕ → ℕ → ℕ → Planned

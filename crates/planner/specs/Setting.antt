@@ -1,4 +1,4 @@
--- A baud setting and its error (document 02, M-104). Errors are compared by products: nothing is divided, and nothing rounded.
+-- A baud setting and its error (document 02, M-104). Errors are compared by products: nothing is divided or rounded.
 use Prim.Native.Nat.{ℕ, _+_, _-_, _*_, _≤_}
 use lib.Dec.{eqb}
 use Rattle.choice.specs.Pick.{pick}

@@ -1,7 +1,7 @@
 // The best UBRR, by comparing neighbours alone. T is k = S·rate times the divisor UBRR + 1.
 ghost use mathlib.Core.Path.{_≡_};
 ghost use Prim.Native.Nat.{_+_, _*_, _/_, _≤_};
-ghost use Rattle.planner.specs.Planning.{isLargerNoWorse, isSmallerNoWorse, isBestBy, ubrrBy};
+ghost use Rattle.planner.specs.Neighbour.{isLargerNoWorse, isSmallerNoWorse, isBestBy, ubrrBy};
 
 // The two sides of a comparison of the divisors m and m + 1, both below 2 ^ 51.
 fn clock_side(clock: u64, m: u64) -> u64

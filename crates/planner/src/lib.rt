@@ -1,5 +1,5 @@
-// Choosing the baud setting (document 02, M-104): a planner, a check of anybody's proposal, and the error in tenths of a percent. It knows
-// no device.
+// Choosing the baud setting (document 02, M-104): a planner, a check of anybody's proposal, and the error in tenths of
+// a percent. It knows no device.
 mod choose;
 mod figure;
 mod outcome;

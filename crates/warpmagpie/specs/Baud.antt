@@ -1,4 +1,5 @@
--- The calls that choose a baud setting (document 02, M-104): what each answers. They take no record, and stand in no list of calls.
+-- The calls that choose a baud setting (document 02, M-104): what each answers. They take no record, and stand in no
+-- list of calls.
 use Prim.Native.Nat.{ℕ}
 use lib.IntN.{ℤ}
 use Rattle.planner.specs.Planning.{plannedOf, planNumberOf, ubrrOf, tenthsOf, checkedOf, checkNumberOf, acceptedOf}
