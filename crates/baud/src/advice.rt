@@ -1,8 +1,11 @@
 // Which speed to take, and why.
+use crate::length::distance;
+use crate::length::lengths_within;
 use crate::setting::Setting;
-use crate::setting::digit;
-use crate::within::distance;
-use crate::within::is_within;
+ghost use mathlib.Core.Path.{_≡_};
+ghost use Prim.Native.Nat.{_≤_};
+ghost use Rattle.baud.specs.Setting.{totalOf};
+ghost use Rattle.baud.specs.Advice.{isNoWorse, decided as Advice·decided, adviceOf};
 
 // The speed is told by U2X.
 pub(crate) enum Advice {
@@ -16,26 +19,22 @@ pub(crate) enum Advice {
     Neither,
 }
 
-// How many of the frame lengths from 5 to 10 are within the limit.
-fn lengths_within(clock: u32, rate: u32, s: Setting) -> u8 {
-    let five = digit(is_within(clock, rate, s, 5));
-    let six = digit(is_within(clock, rate, s, 6));
-    let seven = digit(is_within(clock, rate, s, 7));
-    let eight = digit(is_within(clock, rate, s, 8));
-    let nine = digit(is_within(clock, rate, s, 9));
-    let ten = digit(is_within(clock, rate, s, 10));
-    five + six + seven + eight + nine + ten
-}
-
-// Whether a setting's absolute error is no larger than another's, at the same rate, which is left out of both products.
-fn is_no_worse(clock: u32, rate: u32, s: Setting, other: Setting) -> bool {
+// Whether a setting's absolute error is no larger than another's. The rate is a factor of both products, and left out of both.
+fn is_no_worse(clock: u32, rate: u32, s: Setting, other: Setting) -> bool
+    requires { ⌜ clock ≤ 20000000 ⌝ }
+    requires { ⌜ 1 ≤ rate ⌝ }
+    requires { ⌜ rate ≤ 2500000 ⌝ }
+    ensures { λ r. ⌜ r ≡ isNoWorse clock (totalOf s rate) (totalOf other rate) ⌝ }
+{
     let here = distance(clock as u64, s.total(rate)) * other.divisor();
     let there = distance(clock as u64, other.total(rate)) * s.divisor();
     here <= there
 }
 
-// By how many lengths are within the limit, and whether the error of either is no larger than the other's.
-fn decided(normal: u8, double: u8, is_normal_no_worse: bool, is_double_no_worse: bool) -> Advice {
+// By how many frame lengths are within the limit, and whether the error of either speed is no larger than the other's.
+fn decided(normal: u8, double: u8, normal_no_worse: bool, double_no_worse: bool) -> Advice
+    ensures { λ r. ⌜ r ≡ Advice·decided normal double «normal_no_worse» «double_no_worse» ⌝ }
+{
     if double < normal {
         return Advice::MoreLengths(false);
     }
@@ -45,16 +44,21 @@ fn decided(normal: u8, double: u8, is_normal_no_worse: bool, is_double_no_worse:
     if normal == 0 {
         return Advice::Neither;
     }
-    if !is_normal_no_worse {
+    if !normal_no_worse {
         return Advice::SmallerError(true);
     }
-    if !is_double_no_worse {
+    if !double_no_worse {
         return Advice::SmallerError(false);
     }
     Advice::Even
 }
 
-pub(crate) fn advice(clock: u32, rate: u32, normal: Setting, double: Setting) -> Advice {
+pub(crate) fn advised(clock: u32, rate: u32, normal: Setting, double: Setting) -> Advice
+    requires { ⌜ clock ≤ 20000000 ⌝ }
+    requires { ⌜ 1 ≤ rate ⌝ }
+    requires { ⌜ rate ≤ 2500000 ⌝ }
+    ensures { λ r. ⌜ r ≡ adviceOf clock rate normal double ⌝ }
+{
     decided(
         lengths_within(clock, rate, normal),
         lengths_within(clock, rate, double),

@@ -1,49 +1,71 @@
 // The program's arguments: decimal numbers.
+ghost use mathlib.Core.Path.{_≡_};
+ghost use mathlib.Core.Bool.{true};
+ghost use Rattle.baud.specs.Decimal.{isDigit, withDigit, digitRead, byteRead, numberIn};
 
 pub(crate) enum Number {
-    // The value of a text of decimal digits, where it fits.
+    // What decimal digits are worth, where it fits.
     Value(u32),
     Nothing,
 }
 
-// What the digits so far, and one byte more, are worth.
-fn with_byte(so_far: Number, byte: u8) -> Number {
-    match so_far {
-        Number::Nothing => Number::Nothing,
-        Number::Value(value) => with_digit(value, byte),
+fn is_digit(byte: u8) -> bool
+    ensures { λ r. ⌜ r ≡ isDigit byte ⌝ }
+{
+    if byte < 48 {
+        return false;
     }
+    byte <= 57
 }
 
-fn with_digit(value: u32, byte: u8) -> Number {
-    if byte < 48 {
+fn with_digit(value: u32, byte: u8) -> u64
+    requires { ⌜ isDigit byte ≡ true ⌝ }
+    ensures { λ r. ⌜ r ≡ withDigit value byte ⌝ }
+{
+    10 * value as u64 + (byte - 48) as u64
+}
+
+// One byte after digits that are worth `value`.
+fn digit_read(value: u32, byte: u8) -> Number
+    ensures { λ r. ⌜ r ≡ digitRead value byte ⌝ }
+{
+    if !is_digit(byte) {
         return Number::Nothing;
     }
-    if 57 < byte {
-        return Number::Nothing;
-    }
-    let more = 10 * value as u64 + (byte - 48) as u64;
+    let more = with_digit(value, byte);
     if 4294967295 < more {
         return Number::Nothing;
     }
     Number::Value(more as u32)
 }
 
-pub(crate) fn number(text: &[u8]) -> Number {
+fn byte_read(n: Number, byte: u8) -> Number
+    ensures { λ r. ⌜ r ≡ byteRead n byte ⌝ }
+{
+    match n {
+        Number::Value(value) => digit_read(value, byte),
+        Number::Nothing => Number::Nothing,
+    }
+}
+
+fn number_in(text: &[u8]) -> Number
+    ensures { λ r. ⌜ r ≡ numberIn (now (text .entry)) ⌝ }
+{
     if text.len() == 0 {
         return Number::Nothing;
     }
-    let mut so_far = Number::Value(0);
+    let mut n = Number::Value(0);
     let mut i = 0;
     while i < text.len() {
-        so_far = with_byte(so_far, text[i]);
+        n = byte_read(n, text[i]);
         i += 1;
     }
-    so_far
+    n
 }
 
-// Argument i. One that is missing, or longer than the buffer, has no bytes here.
+// Argument i. Where it is missing, or longer than the buffer, there is no text.
 pub(crate) fn argument(i: usize) -> Number {
     let mut text = [0u8; 32];
     let n = os::arg(i, &mut text);
-    number(&text[..n])
+    number_in(&text[..n])
 }

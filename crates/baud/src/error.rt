@@ -2,8 +2,15 @@
 use crate::column::decimal;
 use crate::column::fill;
 use crate::column::text;
+ghost use mathlib.Core.Path.{_≡_};
+ghost use lib.IntN.{natAbs};
 
-fn magnitude(tenths: i32) -> u64 {
+// The column's width: two spaces, and +60935.2 %.
+pub(crate) const WIDTH: usize = 12;
+
+fn magnitude(tenths: i32) -> u64
+    ensures { λ r. ⌜ r ≡ natAbs tenths ⌝ }
+{
     let wide = tenths as i64;
     if wide < 0 {
         return (0 - wide) as u64;
@@ -19,18 +26,18 @@ fn sign(tenths: i32) {
     }
 }
 
-// How many bytes the sign and the digits before the point take.
-fn before_point(tenths: i32, whole: u64) -> usize {
-    let mut digits = [0u8; 20];
-    let k = io::decimal(whole, &mut digits);
-    if tenths == 0 { k } else { k + 1 }
+// What is left of the column for the digits before the point: four bytes follow them, and a sign stands before them if the error is not 0.
+fn room(tenths: i32) -> usize {
+    if tenths == 0 { WIDTH - 4 } else { WIDTH - 5 }
 }
 
-pub(crate) fn percent(width: usize, tenths: i32) {
+pub(crate) fn percent(tenths: i32) {
     let m = magnitude(tenths);
-    fill(width, before_point(tenths, m / 10) + 4);
+    let mut digits = [0u8; 20];
+    let k = io::decimal(m / 10, &mut digits);
+    fill(room(tenths), k);
     sign(tenths);
-    decimal(1, m / 10);
+    text(&digits[..k]);
     text(b".");
     decimal(1, m % 10);
     text(b" %");

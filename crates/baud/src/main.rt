@@ -3,10 +3,10 @@ mod advice;
 mod argument;
 mod column;
 mod error;
+mod length;
 mod rate;
 mod setting;
 mod table;
-mod within;
 
 use argument::Number;
 use argument::argument;

@@ -1,18 +1,20 @@
 // What the program writes on standard output.
 use crate::advice::Advice;
-use crate::advice::advice;
+use crate::advice::advised;
 use crate::column::decimal;
 use crate::column::hex_byte;
 use crate::column::text;
 use crate::column::thousandths;
 use crate::column::words;
 use crate::column::yes_or_no;
-use crate::error::percent;
+use crate::error;
+use crate::length::is_within;
 use crate::rate::real_rate;
 use crate::setting::Setting;
 use crate::setting::digit;
-use crate::within::is_within;
 use planner::Planned;
+ghost use mathlib.Core.Path.{_≡_};
+ghost use Rattle.planner.specs.Planning.{isInRange};
 
 // The columns' widths: the longest content of each, and two spaces.
 const U2X0: usize = 6;
@@ -23,9 +25,6 @@ const UBRR0: usize = 8;
 
 // 2500000.000
 const RATE: usize = 13;
-
-// +60935.2 %
-const ERROR: usize = 12;
 
 const LENGTH: usize = 6;
 
@@ -44,7 +43,7 @@ fn heads() {
     words(UBRR0, b"UBRR0H");
     words(UBRR0, b"UBRR0L");
     words(RATE, b"real rate");
-    words(ERROR, b"error");
+    words(error::WIDTH, b"error");
     words(LENGTH, b"D=5");
     words(LENGTH, b"D=6");
     words(LENGTH, b"D=7");
@@ -78,7 +77,7 @@ fn row(clock: u32, rate: u32, s: Setting, tenths: i32) {
     hex_byte(UBRR0, ubrr / 256);
     hex_byte(UBRR0, ubrr % 256);
     thousandths(RATE - 4, real_rate(clock, s));
-    percent(ERROR, tenths);
+    error::percent(tenths);
     lengths(clock, rate, s);
     text(b"\n");
 }
@@ -123,7 +122,9 @@ fn advise(a: Advice) {
 }
 
 // Whether the planner takes this clock and this rate; if so, the table.
-pub(crate) fn shown(clock: u32, rate: u32) -> bool {
+pub(crate) fn shown(clock: u32, rate: u32) -> bool
+    ensures { λ r. ⌜ r ≡ isInRange clock rate ⌝ }
+{
     let Planned::Done(ubrr, tenths) = planner::plan(clock, rate, 0) else {
         return false;
     };
@@ -143,6 +144,6 @@ pub(crate) fn shown(clock: u32, rate: u32) -> bool {
     row(clock, rate, normal, tenths);
     row(clock, rate, double, double_tenths);
     legend();
-    advise(advice(clock, rate, normal, double));
+    advise(advised(clock, rate, normal, double));
     true
 }

@@ -1,0 +1,47 @@
+-- A decimal number in a text.
+use Prim.Native.Nat.{ℕ, _+_, _-_, _*_}
+use mathlib.Core.Bool.{Bool, true, false}
+use mathlib.Core.List.{List, [], _∷_}
+use lib.Dec.{leb}
+use Rattle.choice.specs.Pick.{pick}
+use Rattle.baud.specs.declared.argument.Number.{Number}
+use Rattle.baud.specs.declared.argument.Number.the-variants.{Value, Nothing}
+
+-- '0' to '9'
+abbrev pub isDigit : ℕ → Bool
+isDigit b = pick (leb 48 b) (leb b 57) false
+
+unfoldable pub areDigits : List ℕ → Bool
+areDigits [] = true
+areDigits (b ∷ text) = pick (isDigit b) (areDigits text) false
+
+-- a digit after others that are worth `value`
+abbrev pub withDigit : ℕ → ℕ → ℕ
+withDigit value b = 10 * value + (b - 48)
+
+-- what digits are worth after others that are worth `value`
+unfoldable pub worthAfter : ℕ → List ℕ → ℕ
+worthAfter value [] = value
+worthAfter value (b ∷ text) = worthAfter (withDigit value b) text
+
+-- digits alone, worth what 32 bits hold
+abbrev pub numberAfter : ℕ → List ℕ → Number
+numberAfter value text =
+    pick (areDigits text) (pick (leb (worthAfter value text) 4294967295) (Value (worthAfter value text)) Nothing) Nothing
+
+-- a number is at least one digit, and nothing else
+abbrev pub numberIn : List ℕ → Number
+numberIn [] = Nothing
+numberIn (b ∷ text) = numberAfter 0 (b ∷ text)
+
+-- A means, no rule: the same by one byte after the other.
+abbrev pub digitRead : ℕ → ℕ → Number
+digitRead value b = pick (isDigit b) (pick (leb (withDigit value b) 4294967295) (Value (withDigit value b)) Nothing) Nothing
+
+abbrev pub byteRead : Number → ℕ → Number
+byteRead (Value value) b = digitRead value b
+byteRead Nothing b = Nothing
+
+unfoldable pub readFrom : Number → List ℕ → Number
+readFrom n [] = n
+readFrom n (b ∷ text) = readFrom (byteRead n b) text

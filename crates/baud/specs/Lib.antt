@@ -1,0 +1,5 @@
+pub mod Decimal
+pub mod Setting
+pub mod Rate
+pub mod Length
+pub mod Advice
