@@ -5,3 +5,4 @@ pub mod RateLaws
 pub mod LengthLaws
 pub mod RangeLaws
 pub mod AdviceLaws
+pub mod Examples

@@ -1,5 +1,5 @@
 // Which speed to take, and why.
-use crate::length::distance;
+use crate::arithmetic::distance;
 use crate::length::lengths_within;
 use crate::setting::Setting;
 ghost use mathlib.Core.Path.{_≡_};

@@ -1,13 +1,13 @@
 // The recommended limit of the rate error at a frame length D, data bits plus parity bit.
+use crate::arithmetic::digit;
+use crate::arithmetic::distance;
 use crate::setting::Setting;
-use crate::setting::digit;
 use frame::Format;
 use frame::Parity;
 use frame::Size;
 ghost use mathlib.Core.Path.{_≡_};
 ghost use Prim.Native.Nat.{_+_, _≤_};
 ghost use Rattle.frame.specs.Format.{dataBits, parityBits, wordBits};
-ghost use Rattle.planner.specs.Setting.{distance as Setting·distance};
 ghost use Rattle.usart.specs.Limit.{limit};
 ghost use Rattle.baud.specs.Length.{isWithinAt, lengthsWithin};
 
@@ -48,12 +48,6 @@ fn limit_at(d: u8, u2x: bool) -> u8
     usart::rate_limit(format_of(d, u2x))
 }
 
-pub(crate) fn distance(a: u64, b: u64) -> u64
-    ensures { λ r. ⌜ r ≡ Setting·distance a b ⌝ }
-{
-    if a < b { b - a } else { a - b }
-}
-
 // Whether a receiver with this setting is within the limit at D, against a sender that keeps the rate exactly.
 pub(crate) fn is_within(clock: u32, rate: u32, s: Setting, d: u8) -> bool
     requires { ⌜ 5 ≤ d ⌝ }
@@ -61,7 +55,8 @@ pub(crate) fn is_within(clock: u32, rate: u32, s: Setting, d: u8) -> bool
     ensures { λ r. ⌜ r ≡ isWithinAt clock rate s d ⌝ }
 {
     let most = limit_at(d, s.u2x);
-    let off = distance(s.total(rate), clock as u64);
+    let t = s.total(rate);
+    let off = distance(t, clock as u64);
     off * 1000 <= most as u64 * clock as u64
 }
 

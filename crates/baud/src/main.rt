@@ -1,10 +1,12 @@
 // baud CLOCK RATE: the best baud setting at each speed as a table, and which speed to take.
 mod advice;
 mod argument;
+mod arithmetic;
 mod column;
 mod error;
 mod length;
 mod rate;
+mod report;
 mod setting;
 mod table;
 
@@ -30,7 +32,7 @@ fn main() {
         usage();
         return;
     };
-    if !table::shown(clock, rate) {
+    if !report::reported(clock, rate) {
         usage();
     }
 }

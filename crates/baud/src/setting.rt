@@ -1,20 +1,12 @@
+use crate::arithmetic::digit;
 ghost use mathlib.Core.Path.{_≡_};
 ghost use Prim.Native.Nat.{_≤_, _*_};
-ghost use Rattle.choice.specs.Pick.{digit as Pick·digit};
 ghost use Rattle.baud.specs.Setting.{divisorOf, totalOf};
 
 // A setting of the baud clock: the speed, and UBRR.
 pub(crate) struct Setting {
     pub u2x: bool,
     pub ubrr: u16,
-}
-
-// 1 for true: U2X as its bit is, and as the planner takes it.
-pub(crate) fn digit(flag: bool) -> u8
-    ensures { λ r. ⌜ r ≡ Pick·digit flag ⌝ }
-    ensures { λ r. ⌜ r ≤ 1 ⌝ }
-{
-    if flag { 1 } else { 0 }
 }
 
 impl Setting {
