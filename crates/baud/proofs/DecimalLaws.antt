@@ -1,6 +1,6 @@
 -- A text read byte by byte, and what it is worth as a whole.
-use Prim.Native.Nat.{ℕ, zero, suc, _+_, _*_, _-_, _<_, _≤_}
-use mathlib.Core.Path.{_≡_, refl, ap, sym, _∙_}
+use Prim.Native.Nat.{ℕ, _+_, _<_, _≤_}
+use mathlib.Core.Path.{_≡_, refl, ap, _∙_}
 use mathlib.Core.Bool.{Bool, true, false}
 use mathlib.Core.List.{List, [], _∷_}
 use native.Mathlib.Omega.{arith}
@@ -10,10 +10,11 @@ use lib.ListN.{length, getD, drop, drop-of-length-le}
 use lib.Seq.{drop-cons}
 use borrow.Author.Tests.{leb-true, leb-false, le-leb, lt-leb}
 use Rattle.choice.specs.Pick.{pick}
-use Rattle.choice.proofs.Picks.{both, split, clash, pick-true, pick-false}
+use Rattle.choice.proofs.Picks.{both, split, pick-true, pick-false}
 use Rattle.baud.specs.declared.argument.Number.{Number}
 use Rattle.baud.specs.declared.argument.Number.the-variants.{Value, Nothing}
-use Rattle.baud.specs.Decimal.{isDigit, areDigits, withDigit, worthAfter, numberAfter, numberIn, digitRead, byteRead, readFrom}
+use Rattle.baud.specs.Decimal.{isDigit, areDigits, withDigit, worthAfter, fitting, numberAfter, numberIn}
+use Rattle.baud.specs.Decimal.{digitRead, byteRead, readFrom}
 
 pub digit-range : (b : ℕ) → isDigit b ≡ true → (48 ≤ b) × (b ≤ 57)
 digit-range b h = let r = both (leb 48 b) (leb b 57) h in (leb-true 48 b (r .0), leb-true b 57 (r .1))
@@ -30,37 +31,45 @@ unfolding readFrom
 nothing-read [] = refl
 nothing-read (b ∷ text) = nothing-read text
 
+-- what 32 bits hold, and what not
+value-fits : (w : ℕ) → w ≤ 4294967295 → Value w ≡ fitting w
+value-fits w h = pick-true (leb w 4294967295) _ _ _ (le-leb _ _ h) refl
+
+value-large : (w : ℕ) → 4294967295 < w → Nothing ≡ fitting w
+value-large w h = pick-false (leb w 4294967295) _ _ _ (lt-leb _ _ h) refl
+
 -- too much stays too much
-too-much : (value : ℕ) (text : List ℕ) → 4294967295 < value → numberAfter value text ≡ Nothing
+too-much : (value : ℕ) (text : List ℕ) → 4294967295 < value → Nothing ≡ numberAfter value text
 too-much value text h =
+    let large : 4294967295 < worthAfter value text = omega (arith, worth-least value text) in
     split (areDigits text)
-    (λ e. sym (pick-true (areDigits text) _ _ _ e (pick-false _ _ _ _ (lt-leb (worthAfter value text) 4294967295 (omega (arith, worth-least value text))) refl)))
-    (λ e. sym (pick-false (areDigits text) _ _ _ e refl))
+    (λ e. pick-true (areDigits text) _ _ _ e (value-large _ large))
+    (λ e. pick-false (areDigits text) _ _ _ e refl)
 
 -- byte by byte is as a whole
 pub read-after : (value : ℕ) (text : List ℕ) → value ≤ 4294967295 → readFrom (Value value) text ≡ numberAfter value text
 unfolding readFrom areDigits worthAfter
-read-after value [] h = pick-true _ _ _ _ (le-leb _ _ h) refl
+read-after value [] h = value-fits value h
 read-after value (b ∷ text) h =
-    by (isDigit b) (leb (withDigit value b) 4294967295) (λ f. read-after (withDigit value b) text (leb-true _ _ f)) (λ f. sym (too-much (withDigit value b) text (leb-false _ _ f)))
+    by (withDigit value b) (isDigit b) (leb (withDigit value b) 4294967295)
+    (λ f. read-after (withDigit value b) text (leb-true _ _ f))
+    (λ f. too-much (withDigit value b) text (leb-false _ _ f))
   where
-    by : (t u : Bool) → (u ≡ true → readFrom (Value (withDigit value b)) text ≡ numberAfter (withDigit value b) text)
-        → (u ≡ false → Nothing ≡ numberAfter (withDigit value b) text)
-        → readFrom (pick t (pick u (Value (withDigit value b)) Nothing) Nothing) text
-        ≡ pick (pick t (areDigits text) false) (pick (leb (worthAfter (withDigit value b) text) 4294967295) (Value (worthAfter (withDigit value b) text)) Nothing) Nothing
-    by true true f g = f refl
-    by true false f g = nothing-read text ∙ g refl
-    by false u f g = nothing-read text
+    by : (w : ℕ) (t u : Bool) → (u ≡ true → readFrom (Value w) text ≡ numberAfter w text)
+        → (u ≡ false → Nothing ≡ numberAfter w text)
+        → readFrom (pick t (pick u (Value w) Nothing) Nothing) text
+        ≡ pick (pick t (areDigits text) false) (fitting (worthAfter w text)) Nothing
+    by w true true f g = f refl
+    by w true false f g = nothing-read text ∙ g refl
+    by w false u f g = nothing-read text
 
 -- a digit that makes the number too large, and one that does not
 module _ (value b w : ℕ) (d : isDigit b ≡ true) (e : w ≡ withDigit value b) where
   pub digit-large : 4294967295 < w → Nothing ≡ digitRead value b
-  digit-large h =
-      pick-true (isDigit b) _ _ _ d (pick-false _ _ _ _ (lt-leb (withDigit value b) 4294967295 (omega arith)) refl)
+  digit-large h = pick-true (isDigit b) _ _ _ d (value-large w h ∙ ap fitting e)
 
   pub digit-fits : w ≤ 4294967295 → Value w ≡ digitRead value b
-  digit-fits h =
-      pick-true (isDigit b) _ _ _ d (pick-true _ _ _ _ (le-leb (withDigit value b) 4294967295 (omega arith)) (ap Value e))
+  digit-fits h = pick-true (isDigit b) _ _ _ d (value-fits w h ∙ ap fitting e)
 
 -- the loop: one byte more, and the end
 pub read-more : (text : List ℕ) (i : ℕ) (n m : Number) → i < length text → m ≡ byteRead n (getD text i 0)

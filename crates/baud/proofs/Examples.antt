@@ -2,7 +2,6 @@
 use mathlib.Core.Path.{_≡_, refl}
 use mathlib.Core.Bool.{true, false}
 use mathlib.Core.List.{[], _∷_}
-use Prim.Native.Nat.{ℕ}
 use Rattle.baud.specs.declared.argument.Number.the-variants.{Value, Nothing}
 use Rattle.baud.specs.declared.setting.Setting.{Setting}
 use Rattle.baud.specs.declared.advice.Advice.the-variants.{MoreLengths}

@@ -2,23 +2,27 @@
 use mathlib.Core.Path.{_≡_}
 use mathlib.Core.Bool.{true}
 use mathlib.Core.Logic.{_↔_}
-use Prim.Native.Nat.{ℕ, _+_, _-_, _*_, _≤_, _<_}
+use Prim.Native.Nat.{ℕ, _≤_, _<_}
 use native.Mathlib.Omega.{arith}
-use borrow.Author.Tests.{leb-true, le-leb}
+use borrow.Author.Tests.{leb-true, leb-false}
 use mir.Syntax.{w32}
 use mir.Val.{Fits}
-use Rattle.planner.specs.Setting.{distance}
+use Rattle.choice.proofs.Picks.{split}
 use Rattle.usart.specs.Limit.{limit, Within}
 use Rattle.baud.specs.declared.setting.Setting.{Setting}
 use Rattle.baud.specs.Setting.{totalOf}
 use Rattle.baud.specs.Length.{isWithin, isWithinAt}
 
-pub within-exactly : (clock rate : ℕ) (s : Setting) (D : ℕ) → (isWithinAt clock rate s D ≡ true) ↔ Within (limit (s .u2x) D) (totalOf s rate) clock
+exactly : (r N P : ℕ) → (isWithin r N P ≡ true) ↔ Within r N P
+exactly r N P = (
+  (λ h. omega (arith, leb-true)),
+  (λ w. split (isWithin r N P) (λ y. y) (λ n. absurd (omega (arith, leb-false, w .0, w .1)))),
+)
+
+pub within-exactly : (clock rate : ℕ) (s : Setting) (D : ℕ)
+    → (isWithinAt clock rate s D ≡ true) ↔ Within (limit (s .u2x) D) (totalOf s rate) clock
 unfolding isWithinAt
 within-exactly clock rate s D = exactly (limit (s .u2x) D) (totalOf s rate) clock
-  where
-    exactly : (r N P : ℕ) → (isWithin r N P ≡ true) ↔ Within r N P
-    exactly r N P = ((λ h. omega (arith, leb-true (distance N P * 1000) (r * P) h)), (λ w. le-leb (distance N P * 1000) (r * P) (omega (arith, w .0, w .1))))
 
 -- by the widths that the code has
 pub limit-most : {n : ℕ} → n < 256 → n ≤ 255

@@ -17,7 +17,9 @@ module _ (clock rate u2x : ℕ) {p : Planned} (e : p ≡ plannedOf clock rate u2
   pub done-range : {u : ℕ} {t : ℤ} → p ≡ Done u t → isInRange clock rate ≡ true
   done-range {u} {t} d =
       split (isInRange clock rate) (λ y. y)
-      (λ n. let q : Done u t ≡ Refused Range = sym d ∙ e ∙ unplanned clock rate u2x n in let z : _≡_ {A = ℕ} 0 1 = cc in absurd (omega arith))
+      (λ n. let q : Done u t ≡ Refused Range = sym d ∙ e ∙ unplanned clock rate u2x n in
+      let z : _≡_ {A = ℕ} 0 1 = cc in
+      absurd (omega arith))
 
   pub done-sizes : {u : ℕ} {t : ℤ} → p ≡ Done u t → (clock ≤ 20000000) × ((1 ≤ rate) × (rate ≤ 2500000))
   done-sizes d = let z = in-range clock rate u2x (done-range d) in (z .clock-most, (z .rate-least, z .rate-most))
@@ -25,4 +27,7 @@ module _ (clock rate u2x : ℕ) {p : Planned} (e : p ≡ plannedOf clock rate u2
   pub refused-range : {r : Refusal} → p ≡ Refused r → isInRange clock rate ≡ false
   refused-range {r} d =
       split (isInRange clock rate)
-      (λ y. let q = sym d ∙ e ∙ planned clock rate u2x y in let z : _≡_ {A = ℕ} 0 1 = cc in absurd (omega arith)) (λ n. n)
+      (λ y. let q = sym d ∙ e ∙ planned clock rate u2x y in
+      let z : _≡_ {A = ℕ} 0 1 = cc in
+      absurd (omega arith))
+      (λ n. n)

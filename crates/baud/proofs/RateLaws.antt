@@ -2,7 +2,7 @@
 use Prim.Native.Nat.{ℕ, _+_, _*_, _≤_}
 use native.Mathlib.Nat.{mul-div-le, lt-mul-div-succ, le-div-iff-mul-le}
 use native.Mathlib.Omega.{arith}
-use Rattle.baud.specs.Rate.{Within, Nearest, thousandths}
+use Rattle.baud.specs.Rate.{Nearest, thousandths}
 
 pub nearest : (clock d : ℕ) → 1 ≤ d → Nearest clock d (thousandths clock d)
 nearest clock d h =

@@ -14,8 +14,8 @@ use Rattle.baud.specs.Length.{lengthsWithin}
 abbrev pub isNoWorse : ℕ → ℕ → ℕ → Bool
 isNoWorse clock x y = leb (distance clock x * y) (distance clock y * x)
 
--- the speed that is within the limit at more frame lengths; if equal, the one with the smaller absolute error; if still equal,
--- normal speed. Where neither is within it at any, neither
+-- the speed that is within the limit at more frame lengths; if equal, the one with the smaller absolute error; if still
+-- equal, normal speed. Where neither is within it at any, neither
 unfoldable pub decided : ℕ → ℕ → Bool → Bool → Advice
 decided normal double normalNoWorse doubleNoWorse =
     pick (ltb double normal) (MoreLengths false)
@@ -26,4 +26,5 @@ decided normal double normalNoWorse doubleNoWorse =
 unfoldable pub adviceOf : ℕ → ℕ → Setting → Setting → Advice
 adviceOf clock rate normal double =
     decided (lengthsWithin clock rate normal) (lengthsWithin clock rate double)
-    (isNoWorse clock (totalOf normal rate) (totalOf double rate)) (isNoWorse clock (totalOf double rate) (totalOf normal rate))
+    (isNoWorse clock (totalOf normal rate) (totalOf double rate))
+    (isNoWorse clock (totalOf double rate) (totalOf normal rate))

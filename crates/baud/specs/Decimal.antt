@@ -24,10 +24,13 @@ unfoldable pub worthAfter : ℕ → List ℕ → ℕ
 worthAfter value [] = value
 worthAfter value (b ∷ text) = worthAfter (withDigit value b) text
 
--- digits alone, worth what 32 bits hold
+-- what 32 bits hold
+abbrev pub fitting : ℕ → Number
+fitting value = pick (leb value 4294967295) (Value value) Nothing
+
+-- digits alone
 abbrev pub numberAfter : ℕ → List ℕ → Number
-numberAfter value text =
-    pick (areDigits text) (pick (leb (worthAfter value text) 4294967295) (Value (worthAfter value text)) Nothing) Nothing
+numberAfter value text = pick (areDigits text) (fitting (worthAfter value text)) Nothing
 
 -- a number is at least one digit, and nothing else
 abbrev pub numberIn : List ℕ → Number
@@ -36,7 +39,7 @@ numberIn (b ∷ text) = numberAfter 0 (b ∷ text)
 
 -- A means, no rule: the same by one byte after the other.
 abbrev pub digitRead : ℕ → ℕ → Number
-digitRead value b = pick (isDigit b) (pick (leb (withDigit value b) 4294967295) (Value (withDigit value b)) Nothing) Nothing
+digitRead value b = pick (isDigit b) (fitting (withDigit value b)) Nothing
 
 abbrev pub byteRead : Number → ℕ → Number
 byteRead (Value value) b = digitRead value b

@@ -1,5 +1,5 @@
--- Whether a setting is within the receiver's recommended limit of the rate error at a frame length D (document 01, 'The line of
--- demand 3'). The sender keeps the rate exactly, so its bit is clock/rate of our clocks: N is T, and P the clock.
+-- Whether a setting is within the receiver's recommended limit of the rate error at a frame length D (document 01, 'The
+-- line of demand 3'). The sender keeps the rate exactly, so its bit is clock/rate of our clocks: N is T, P the clock.
 use Prim.Native.Nat.{ℕ, _+_, _*_}
 use mathlib.Core.Bool.{Bool}
 use lib.Dec.{leb}

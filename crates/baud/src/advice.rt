@@ -19,7 +19,7 @@ pub(crate) enum Advice {
     Neither,
 }
 
-// Whether a setting's absolute error is no larger than another's. The rate is a factor of both products, and left out of both.
+// Whether a setting's absolute error is no larger than another's. The rate, a factor of both products, is left out.
 fn is_no_worse(clock: u32, rate: u32, s: Setting, other: Setting) -> bool
     requires { ⌜ clock ≤ 20000000 ⌝ }
     requires { ⌜ 1 ≤ rate ⌝ }

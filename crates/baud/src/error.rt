@@ -26,7 +26,7 @@ fn sign(tenths: i32) {
     }
 }
 
-// What is left of the column for the digits before the point: four bytes follow them, and a sign stands before them if the error is not 0.
+// What the column has for the digits before the point: four bytes follow them, and an error that is not 0 has a sign.
 fn room(tenths: i32) -> usize {
     if tenths == 0 { WIDTH - 4 } else { WIDTH - 5 }
 }

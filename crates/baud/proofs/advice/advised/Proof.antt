@@ -8,7 +8,15 @@ returns : tie.Need-returns
 unfolding adviceOf
 returns c =
     c .decided .ensures
-    ∙ rw (c .before .before .before .before .lengths-within .ensures, c .before .before .before .lengths-within2 .ensures, c .before .before .is-no-worse .ensures, c .before .is-no-worse2 .ensures)
+    ∙ rw (
+      c .before .before .before .before .lengths-within .ensures,
+      c .before .before .before .lengths-within2 .ensures,
+      c .before .before .is-no-worse .ensures,
+      c .before .is-no-worse2 .ensures,
+    )
 
 pub advised-spec : {M : Type 1} → statement M
-advised-spec = tie.close (tie.spec (λ c κs. search needs) (λ c κs. search needs) (λ c κs. search needs) (λ c κs. search needs) (λ c κs. search needs) returns)
+advised-spec =
+    tie.close
+    (tie.spec (λ c κs. search needs) (λ c κs. search needs) (λ c κs. search needs) (λ c κs. search needs)
+    (λ c κs. search needs) returns)

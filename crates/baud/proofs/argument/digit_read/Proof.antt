@@ -11,11 +11,15 @@ with-digit-requires c κs = sym (c .before .is-digit .ensures) ∙ not-false _ (
 
 returns-2 : tie.Need-returns-2
 returns-2 c =
-    digit-large _ _ _ (sym (c .before .before .before .is-digit .ensures) ∙ not-false _ (c .before .before .if1 .left)) (c .before .with-digit .ensures) (c .if2 .taken)
+    let digit = sym (c .before .before .before .is-digit .ensures) ∙ not-false _ (c .before .before .if1 .left) in
+    digit-large _ _ _ digit (c .before .with-digit .ensures) (c .if2 .taken)
 
 returns-3 : tie.Need-returns-3
 returns-3 c =
-    digit-fits _ _ _ (sym (c .before .before .before .is-digit .ensures) ∙ not-false _ (c .before .before .if1 .left)) (c .before .with-digit .ensures) (c .if2 .left)
+    let digit = sym (c .before .before .before .is-digit .ensures) ∙ not-false _ (c .before .before .if1 .left) in
+    digit-fits _ _ _ digit (c .before .with-digit .ensures) (c .if2 .left)
 
 pub digit-read-spec : {M : Type 1} → statement M
-digit-read-spec = tie.close (tie.spec (λ c κs. search needs) (λ c. search picks) with-digit-requires returns-2 (λ c. search needs) returns-3)
+digit-read-spec =
+    tie.close
+    (tie.spec (λ c κs. search needs) (λ c. search picks) with-digit-requires returns-2 (λ c. search needs) returns-3)

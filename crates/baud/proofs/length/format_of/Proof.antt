@@ -1,5 +1,5 @@
-use borrow.Author.Needs.{needs}
 use native.Mathlib.Omega.{arith}
+use borrow.Author.Needs.{needs}
 use Rattle.baud.proofs.length.format_of.Statement.{statement}
 use Rattle.baud.proofs.length.format_of.Tie as tie
 
@@ -22,4 +22,7 @@ returns-6 : tie.Need-returns-6
 returns-6 c = (omega (arith, c .format6 .ensures .0), c .format6 .ensures .1)
 
 pub format-of-spec : {M : Type 1} → statement M
-format-of-spec = tie.close (tie.spec (λ c κs. search needs) (λ c κs. search needs) (λ c κs. search needs) (λ c κs. search needs) (λ c κs. search needs) (λ c κs. search needs) returns returns-2 returns-3 returns-4 returns-5 returns-6)
+format-of-spec =
+    tie.close
+    (tie.spec (λ c κs. search needs) (λ c κs. search needs) (λ c κs. search needs) (λ c κs. search needs)
+    (λ c κs. search needs) (λ c κs. search needs) returns returns-2 returns-3 returns-4 returns-5 returns-6)

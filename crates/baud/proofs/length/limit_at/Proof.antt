@@ -1,6 +1,6 @@
 use mathlib.Core.Path.{ap₂, _∙_}
-use Rattle.usart.specs.Limit.{limit}
 use borrow.Author.Needs.{needs}
+use Rattle.usart.specs.Limit.{limit}
 use Rattle.baud.proofs.length.limit_at.Statement.{statement}
 use Rattle.baud.proofs.length.limit_at.Tie as tie
 

@@ -8,4 +8,7 @@ returns : tie.Need-returns
 returns c = ap (thousandths (c .before .args .clock)) (c .divisor .ensures .0)
 
 pub real-rate-spec : {M : Type 1} → statement M
-real-rate-spec = tie.close (tie.spec (λ c κs. search needs) (λ c. search needs) (λ c. search needs) (λ c. search needs) (λ c. search needs) returns)
+real-rate-spec =
+    tie.close
+    (tie.spec (λ c κs. search needs) (λ c. search needs) (λ c. search needs) (λ c. search needs) (λ c. search needs)
+    returns)
