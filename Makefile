@@ -1,4 +1,4 @@
-.PHONY: archive install demo test compare bench refute
+.PHONY: archive install baud demo test compare bench refute
 
 PREFIX ?= /usr/local
 
@@ -9,6 +9,11 @@ archive:
 # Puts header, archive and a pkg-config file below PREFIX: make install PREFIX=$HOME/.local. Packagers set DESTDIR too.
 install:
 	@bash scripts/install.sh "$(PREFIX)" "$(DESTDIR)"
+
+# Proves and builds the program that prints the baud setting for a clock and a rate.
+baud:
+	@bash scripts/baud.sh
+	@echo "target/bin/baud CLOCK RATE, in Hz and baud, as in: target/bin/baud 16000000 115200"
 
 # Builds the archive and the rig in examples/, plays both transfers and writes the waveform.
 demo:
