@@ -1,6 +1,6 @@
 #!/usr/bin/env bash
-# The program baud: the examples in tests/host/baud_table, which were reckoned by hand, other clocks and rates against a
-# calculation of its own, and wrong arguments. The README shows the first example as it is.
+# The program baud: the examples in tests/host/baud_table, which were worked out apart from it, other clocks and rates
+# against a calculation of the test's own, and wrong arguments. The README shows the first example as it is.
 set -eu
 cd "$(dirname "$0")/../.."
 bash scripts/baud.sh
