@@ -7,8 +7,8 @@ use lib.IntN.{ℤ}
 use Rattle.choice.proofs.Picks.{split}
 use Rattle.answer.specs.declared.Refusal.{Refusal}
 use Rattle.answer.specs.declared.Refusal.the-variants.{Range}
-use Rattle.planner.specs.declared.planning.Planned.{Planned}
-use Rattle.planner.specs.declared.planning.Planned.the-variants.{Done, Refused}
+use Rattle.planner.specs.declared.outcome.Planned.{Planned}
+use Rattle.planner.specs.declared.outcome.Planned.the-variants.{Done, Refused}
 use Rattle.planner.specs.Planning.{isInRange, plannedOf}
 use Rattle.planner.proofs.Sizes.{in-range}
 use Rattle.planner.proofs.PlanningLaws.{planned, unplanned}

@@ -1,7 +1,7 @@
 // The recommended limit of the rate error at a frame length D, data bits plus parity bit.
-use crate::arithmetic::digit;
 use crate::arithmetic::distance;
 use crate::setting::Setting;
+use choice::digit;
 use frame::Format;
 use frame::Parity;
 use frame::Size;

@@ -1,4 +1,4 @@
-use crate::arithmetic::digit;
+use choice::digit;
 ghost use mathlib.Core.Path.{_≡_};
 ghost use Prim.Native.Nat.{_≤_, _*_};
 ghost use Rattle.baud.specs.Setting.{divisorOf, totalOf};

@@ -1,5 +1,4 @@
 // The table: a row for each speed.
-use crate::arithmetic::digit;
 use crate::column::decimal;
 use crate::column::hex_byte;
 use crate::column::text;
@@ -10,6 +9,7 @@ use crate::error;
 use crate::length::is_within;
 use crate::rate::real_rate;
 use crate::setting::Setting;
+use choice::digit;
 
 // The columns' widths: the longest content of each, and two spaces.
 const U2X0: usize = 6;
