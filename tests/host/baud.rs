@@ -10,6 +10,8 @@ mod model;
 
 #[path = "baud/archive.rs"]
 mod archive;
+#[path = "compare/arguments.rs"]
+mod arguments;
 #[path = "baud/calls.rs"]
 mod calls;
 #[path = "baud/edges.rs"]
@@ -70,27 +72,7 @@ const PARTS: [Part; 8] = [
 ];
 
 fn main() {
-    let outcome = arguments().and_then(|(seed, scale)| {
-        compare_all(seed, scale).map_err(|text| format!("seed {seed}, scale {scale}, {text}"))
-    });
-    if let Err(text) = outcome {
-        println!("baud: {text}");
-        std::process::exit(1);
-    }
-}
-
-fn arguments() -> Result<(u64, u64), String> {
-    let (mut seed, mut scale) = (SEED, 1);
-    let mut words = std::env::args().skip(1);
-    while let Some(word) = words.next() {
-        let value = words.next().and_then(|value| value.parse().ok());
-        match (word.as_str(), value) {
-            ("--seed", Some(value)) => seed = value,
-            ("--scale", Some(value)) if value > 0 => scale = value,
-            _ => return Err("usage: baud [--seed N] [--scale K]".to_string()),
-        }
-    }
-    Ok((seed, scale))
+    arguments::run("baud", SEED, compare_all);
 }
 
 fn compare_all(seed: u64, scale: u64) -> Result<(), String> {

@@ -8,6 +8,8 @@ mod model;
 
 #[path = "compare/archive.rs"]
 mod archive;
+#[path = "compare/arguments.rs"]
+mod arguments;
 #[path = "compare/broken.rs"]
 mod broken;
 #[path = "compare/call.rs"]
@@ -55,27 +57,7 @@ const PARTS: [(&str, Part, u64); 6] = [
 ];
 
 fn main() {
-    let outcome = arguments().and_then(|(seed, scale)| {
-        compare_all(seed, scale).map_err(|text| format!("seed {seed}, scale {scale}, {text}"))
-    });
-    if let Err(text) = outcome {
-        println!("{text}");
-        std::process::exit(1);
-    }
-}
-
-fn arguments() -> Result<(u64, u64), String> {
-    let (mut seed, mut scale) = (SEED, 1);
-    let mut words = std::env::args().skip(1);
-    while let Some(word) = words.next() {
-        let value = words.next().and_then(|value| value.parse().ok());
-        match (word.as_str(), value) {
-            ("--seed", Some(value)) => seed = value,
-            ("--scale", Some(value)) if value > 0 => scale = value,
-            _ => return Err("usage: compare [--seed N] [--scale K]".to_string()),
-        }
-    }
-    Ok((seed, scale))
+    arguments::run("compare", SEED, compare_all);
 }
 
 fn compare_all(seed: u64, scale: u64) -> Result<(), String> {
