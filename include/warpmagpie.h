@@ -119,7 +119,8 @@ enum warpmagpie_level {
     WARPMAGPIE_LEVEL_SS = 0x10
 };
 
-/* Output byte after a clock: levels that the device puts on its pins, and which pins it drives. A pin that is not driven shows 0. */
+/* Output byte after a clock: levels that the device puts on its pins, and which pins it drives. A pin that is not
+   driven shows 0. */
 enum warpmagpie_output {
     WARPMAGPIE_OUTPUT_TXD = 0x01,
     WARPMAGPIE_OUTPUT_MOSI = 0x02,
@@ -139,8 +140,8 @@ enum warpmagpie_request {
     WARPMAGPIE_REQUEST_SPIF = 0x08
 };
 
-/* Vectors that clear the flag which asked for them. The processor core takes the others without a call: RXC is cleared by reading UDR0,
-   UDRE by writing it. */
+/* Vectors that clear the flag which asked for them. The processor core takes the others without a call: RXC is cleared
+   by reading UDR0, UDRE by writing it. */
 enum warpmagpie_vector {
     WARPMAGPIE_VECTOR_TXC = 0,
     WARPMAGPIE_VECTOR_SPIF = 1
@@ -152,24 +153,26 @@ uint8_t warpmagpie_reset(uint8_t *record, size_t record_len);
 /* Writes a register. Answers 0, 1, 2, 3, 4 or 5. */
 uint8_t warpmagpie_write(uint8_t *record, size_t record_len, uint16_t address, uint8_t value);
 
-/* Reads a register into *value, with what the read does to the device (UDR0 takes the oldest frame away, SPSR arms, SPDR clears what is
-   armed). Answers 0, 1 or 5; *value is 0 on a refusal. */
+/* Reads a register into *value, with what the read does to the device (UDR0 takes the oldest frame away, SPSR arms,
+   SPDR clears what is armed). Answers 0, 1 or 5; *value is 0 on a refusal. */
 uint8_t warpmagpie_read(uint8_t *record, size_t record_len, uint16_t address, uint8_t *value);
 
 /* Takes an interrupt vector: 0 clears TXC, 1 clears SPIF. Answers 0, 1, 5, or 8 where its request does not stand. */
 uint8_t warpmagpie_take_vector(uint8_t *record, size_t record_len, uint8_t vector);
 
-/* Runs a clock for each level byte and writes the output byte after each. All level bytes are checked before any clock passes. Answers 0,
-   5, 6 or 7. A run of no clocks is done and changes nothing. */
-uint8_t warpmagpie_run(uint8_t *record, size_t record_len, const uint8_t *levels, size_t levels_len, uint8_t *outputs, size_t outputs_len);
+/* Runs a clock for each level byte and writes the output byte after each. All level bytes are checked before any clock
+   passes. Answers 0, 5, 6 or 7. A run of no clocks is done and changes nothing. */
+uint8_t warpmagpie_run(uint8_t *record, size_t record_len, const uint8_t *levels, size_t levels_len, uint8_t *outputs,
+                       size_t outputs_len);
 
-/* Reports the interrupt requests into *requests. Answers 0 or 5; *requests is 0 on a refusal. The record is not changed. */
+/* Reports the interrupt requests into *requests. Answers 0 or 5; *requests is 0 on a refusal. The record is not
+   changed. */
 uint8_t warpmagpie_requests(const uint8_t *record, size_t record_len, uint8_t *requests);
 
-/* The two calls below choose a baud setting. They take no record, and each costs the same whatever its arguments are.
-   clock_hz is 1 to 20,000,000, rate 1 to 2,500,000 baud; any other is answered 11, with 0 in every answer. u2x is 0
-   for normal speed; any other byte is double speed. With T = S * (UBRR + 1) * rate, S being 16 or, at double speed, 8,
-   the error of a UBRR is clock_hz / T - 1. */
+/* The two calls below choose a baud setting. They take no record, and have no loop. clock_hz is 1 to 20,000,000, rate
+   1 to 2,500,000 baud; any other is answered 11, with 0 in every answer. u2x is 0 for normal speed; any other byte is
+   double speed. With T = S * (UBRR + 1) * rate, S being 16 or, at double speed, 8, the error of a UBRR is
+   clock_hz / T - 1. */
 
 /* Puts into *ubrr the UBRR, 0 to 4095, whose absolute error is the smallest at this speed, the larger where two tie,
    and into *tenths its error in tenths of a percent, rounded to the nearest, halves away from zero. Answers 0 or 11. */
