@@ -10,12 +10,9 @@ use lib.Signed.{ltZ, nonNeg}
 use mir.Syntax.{w32, w64}
 use mir.Val.{toZ, ofZ, Fits, SFits}
 use mir.ValLaws.{toZ-ofZ}
+use Rattle.planner.proofs.SignedLaws.{held}
 
--- what is read back from 64 bits
-abbrev held : ℤ → ℤ
-held z = toZ w64 (ofZ w64 z)
-
--- .. and from the 32 before
+-- what is read back from 32 bits, and from 64 after them
 abbrev widened : ℤ → ℤ
 widened z = held (toZ w32 (ofZ w32 z))
 
