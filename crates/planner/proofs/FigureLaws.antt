@@ -41,13 +41,13 @@ module _ (c t : ℕ) (t1 : 1 ≤ t) where
 
   -- the figure by its sign
   figure-pos : t ≤ c → tenthsAt c t ≡ pos (((c - t) * 2000 + t) / (2 * t))
-  figure-pos h = rw (diff-pos c t h) refl
+  figure-pos h = ap (λ (x : ℤ). quotient (x *ℤ pos 2000) t (2 * t)) (diff-pos c t h)
 
   figure-neg : c < t → tenthsAt c t ≡ negℤ (pos (((t - c) * 2000 + t) / (2 * t)))
   figure-neg l =
       let m : ℕ = suc (t - suc c) * 2000 in
       let e : suc (m - 1) + t ≡ (t - c) * 2000 + t = omega arith in
-      rw (diff-neg c t l, neg-pos m (omega arith)) (ap (λ (n : ℕ). negℤ (pos (n / (2 * t)))) e)
+      ap (λ (x : ℤ). quotient (x *ℤ pos 2000) t (2 * t)) (diff-neg c t l) ∙ rw (neg-pos m (omega arith)) (ap (λ (n : ℕ). negℤ (pos (n / (2 * t)))) e)
 
   by : Dec (t ≤ c) → Nearest c t (tenthsAt c t)
   by (yes h) =
