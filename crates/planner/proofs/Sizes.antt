@@ -20,8 +20,8 @@ pub record Sizes (clock S rate : ℕ) : Type 0 where
   pub rate-least : 1 ≤ rate
   pub rate-most : rate ≤ 2500000
 
-samples-range : (u2x : ℕ) → (1 ≤ samples u2x) × (samples u2x ≤ 16)
-samples-range u2x = pick-ind (λ (S : ℕ). (1 ≤ S) × (S ≤ 16)) (eqb u2x 0) 16 8 (λ _. omega arith) (λ _. omega arith)
+pub samples-range : (u2x : ℕ) → (8 ≤ samples u2x) × (samples u2x ≤ 16)
+samples-range u2x = pick-ind (λ (S : ℕ). (8 ≤ S) × (S ≤ 16)) (eqb u2x 0) 16 8 (λ _. omega arith) (λ _. omega arith)
 
 pub in-range : (clock rate u2x : ℕ) → isInRange clock rate ≡ true → Sizes clock (samples u2x) rate
 in-range clock rate u2x h =
@@ -32,7 +32,7 @@ in-range clock rate u2x h =
     record {
       clock-least = leb-true 1 clock (a .0);
       clock-most = leb-true clock 20000000 (b .0);
-      S-least = s .0;
+      S-least = omega (arith, s .0);
       S-most = s .1;
       rate-least = leb-true 1 rate (d .0);
       rate-most = leb-true rate 2500000 (d .1);

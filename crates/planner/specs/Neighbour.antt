@@ -5,11 +5,12 @@ use mathlib.Core.Bool.{Bool, true, false}
 use lib.Dec.{eqb, leb}
 use Rattle.choice.specs.Pick.{pick}
 
--- of the divisors m and m + 1, T being k times the divisor, the larger has no larger absolute error; the smaller has none:
--- the sum of clock/km − 1 and clock/k(m + 1) − 1 is not below 0; not above 0
+-- of the divisors m and m + 1, T being k times the divisor, the larger has no larger absolute error than the smaller:
+-- the sum of clock/km − 1 and clock/k(m + 1) − 1 is not below 0
 abbrev pub isLargerNoWorse : ℕ → ℕ → ℕ → Bool
 isLargerNoWorse clock k m = leb (2 * (k * (m * (m + 1)))) (clock * (m + (m + 1)))
 
+-- .. and the smaller has none than the larger: that sum is not above 0
 abbrev pub isSmallerNoWorse : ℕ → ℕ → ℕ → Bool
 isSmallerNoWorse clock k m = leb (clock * (m + (m + 1))) (2 * (k * (m * (m + 1))))
 
