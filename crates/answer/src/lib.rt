@@ -2,7 +2,7 @@
 ghost use mathlib.Core.Path.{_≡_};
 ghost use Rattle.answer.specs.Number.{numberOf};
 
-// Document 01's refusals, and document 02's, of which 9, 10 and 12 come with the requests that first answer them.
+// Document 01's refusals, and document 02's, of which 12 comes with the request that first answers it.
 pub enum Refusal {
     // No such register address or vector.
     Unknown,
@@ -20,6 +20,10 @@ pub enum Refusal {
     Level,
     // A vector taken without its request.
     Unrequested,
+    // A trace whose text is malformed.
+    Malformed,
+    // A call of a trace that was answered otherwise than recorded.
+    Different,
     // A clock or a rate out of its range, where a baud setting is asked for.
     Range,
 }
@@ -38,6 +42,8 @@ impl Refusal {
             Refusal::Length => 6,
             Refusal::Level => 7,
             Refusal::Unrequested => 8,
+            Refusal::Malformed => 9,
+            Refusal::Different => 10,
             Refusal::Range => 11,
         }
     }
