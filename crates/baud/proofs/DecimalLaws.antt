@@ -10,14 +10,13 @@ use lib.ListN.{length, getD, drop, drop-of-length-le}
 use lib.Seq.{drop-cons}
 use borrow.Author.Tests.{leb-true, leb-false, le-leb, lt-leb}
 use Rattle.choice.specs.Pick.{pick}
-use Rattle.choice.proofs.Picks.{both, split, pick-true, pick-false}
+use Rattle.choice.proofs.Picks.{split, pick-true, pick-false}
 use Rattle.baud.specs.declared.argument.Number.{Number}
 use Rattle.baud.specs.declared.argument.Number.the-variants.{Value, Nothing}
-use Rattle.baud.specs.Decimal.{isDigit, areDigits, withDigit, worthAfter, fitting, numberAfter, numberIn}
+use Rattle.decimal.specs.Digits.{isDigit}
+use Rattle.decimal.specs.Field.{withDigit}
+use Rattle.baud.specs.Decimal.{areDigits, worthAfter, fitting, numberAfter, numberIn}
 use Rattle.baud.specs.Decimal.{digitRead, byteRead, readFrom}
-
-pub digit-range : (b : ℕ) → isDigit b ≡ true → (48 ≤ b) × (b ≤ 57)
-digit-range b h = let r = both (leb 48 b) (leb b 57) h in (leb-true 48 b (r .0), leb-true b 57 (r .1))
 
 -- more digits are worth no less
 worth-least : (value : ℕ) (text : List ℕ) → value ≤ worthAfter value text

@@ -1,23 +1,17 @@
 -- A decimal number in a text.
-use Prim.Native.Nat.{ℕ, _+_, _-_, _*_}
+use Prim.Native.Nat.{ℕ}
 use mathlib.Core.Bool.{Bool, true, false}
 use mathlib.Core.List.{List, [], _∷_}
 use lib.Dec.{leb}
 use Rattle.choice.specs.Pick.{pick}
+use Rattle.decimal.specs.Digits.{isDigit}
+use Rattle.decimal.specs.Field.{withDigit}
 use Rattle.baud.specs.declared.argument.Number.{Number}
 use Rattle.baud.specs.declared.argument.Number.the-variants.{Value, Nothing}
-
--- '0' to '9'
-abbrev pub isDigit : ℕ → Bool
-isDigit b = pick (leb 48 b) (leb b 57) false
 
 unfoldable pub areDigits : List ℕ → Bool
 areDigits [] = true
 areDigits (b ∷ text) = pick (isDigit b) (areDigits text) false
-
--- a digit after others that are worth `value`
-abbrev pub withDigit : ℕ → ℕ → ℕ
-withDigit value b = 10 * value + (b - 48)
 
 -- what digits are worth after others that are worth `value`
 unfoldable pub worthAfter : ℕ → List ℕ → ℕ

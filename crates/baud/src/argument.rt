@@ -1,21 +1,15 @@
 // The program's arguments: decimal numbers.
+use decimal::is_digit;
 ghost use mathlib.Core.Path.{_≡_};
 ghost use mathlib.Core.Bool.{true};
-ghost use Rattle.baud.specs.Decimal.{isDigit, withDigit, digitRead, byteRead, numberIn};
+ghost use Rattle.decimal.specs.Digits.{isDigit};
+ghost use Rattle.decimal.specs.Field.{withDigit};
+ghost use Rattle.baud.specs.Decimal.{digitRead, byteRead, numberIn};
 
 pub(crate) enum Number {
     // What decimal digits are worth, where it fits.
     Value(u32),
     Nothing,
-}
-
-fn is_digit(byte: u8) -> bool
-    ensures { λ r. ⌜ r ≡ isDigit byte ⌝ }
-{
-    if byte < 48 {
-        return false;
-    }
-    byte <= 57
 }
 
 fn with_digit(value: u32, byte: u8) -> u64

@@ -1,6 +1,6 @@
 use native.Mathlib.Omega.{arith}
 use borrow.Author.Needs.{needs}
-use Rattle.baud.proofs.DecimalLaws.{digit-range}
+use Rattle.decimal.proofs.FieldLaws.{digit-range}
 use Rattle.baud.proofs.argument.with_digit.Statement.{statement}
 use Rattle.baud.proofs.argument.with_digit.Tie as tie
 

@@ -1,0 +1,4 @@
+pub mod Examples
+pub mod DigitLaws
+pub mod FieldLaws
+pub mod FieldMeaning
