@@ -1,8 +1,9 @@
 /* Warpmagpie: USART0 (asynchronous) and SPI of an ATmega328P, for a rig that has the processor core.
 
    The rig lends a device as a record of 64 bytes and calls the functions below. Each answers a number (WARPMAGPIE_DONE
-   or a refusal). A refusal leaves every byte of record and outputs as it was, and puts 0 where a value is answered.
-   Two further calls, at the end, choose a baud setting and take no record.
+   or a refusal). A refusal leaves every byte of record and outputs as it was, and puts 0 where a value is answered; 9
+   and 10, which a replay answers, alone change the record. Two further calls, at the end, choose a baud setting and
+   take no record.
 
    What C has to keep: a pointer points to as many bytes as its length says (it may be null where the length is 0), and
    the memory of one argument does not overlap that of another. Nothing else is asked of any argument. The record's
@@ -24,15 +25,15 @@ extern "C" {
 /* Of header, archive and pkg-config file. MAJOR rises where a rig may have to change its code or drop its stored
    records, MINOR where there is more than before, PATCH with any other change. WARPMAGPIE_VERSION is for #if. */
 #define WARPMAGPIE_VERSION_MAJOR 2
-#define WARPMAGPIE_VERSION_MINOR 1
+#define WARPMAGPIE_VERSION_MINOR 2
 #define WARPMAGPIE_VERSION_PATCH 0
 #define WARPMAGPIE_VERSION \
     (WARPMAGPIE_VERSION_MAJOR * 10000 + WARPMAGPIE_VERSION_MINOR * 100 + WARPMAGPIE_VERSION_PATCH)
 
 #define WARPMAGPIE_RECORD_LEN 64
 
-/* Answers. Where more than one refusal applies, the order is 5, 1, 2, 3, 4; for a run 5, 6, 7; for a vector 5, 1, 8.
-   Numbers 9, 10 and 12 are kept for requests to come. */
+/* Answers. Where more than one refusal applies, the order is 5, 1, 2, 3, 4; for a run 5, 6, 7; for a vector 5, 1, 8;
+   for a replay 5, 9, 10. Number 12 is kept for a request to come. */
 enum warpmagpie_answer {
     WARPMAGPIE_DONE = 0,
     WARPMAGPIE_REFUSED_UNKNOWN = 1,     /* no such register address or vector */
@@ -43,6 +44,8 @@ enum warpmagpie_answer {
     WARPMAGPIE_REFUSED_LENGTH = 6,      /* output slice not as long as the level slice */
     WARPMAGPIE_REFUSED_LEVEL = 7,       /* a level byte with bit 5, 6 or 7 set */
     WARPMAGPIE_REFUSED_UNREQUESTED = 8, /* vector taken without its request */
+    WARPMAGPIE_REFUSED_MALFORMED = 9,   /* text of a trace malformed */
+    WARPMAGPIE_REFUSED_DIFFERENT = 10,  /* a call of a trace answered otherwise than recorded */
     WARPMAGPIE_REFUSED_RANGE = 11       /* clock not 1 to 20,000,000 Hz, or rate not 1 to 2,500,000 */
 };
 
@@ -168,6 +171,22 @@ uint8_t warpmagpie_run(uint8_t *record, size_t record_len, const uint8_t *levels
 /* Reports the interrupt requests into *requests. Answers 0 or 5; *requests is 0 on a refusal. The record is not
    changed. */
 uint8_t warpmagpie_requests(const uint8_t *record, size_t record_len, uint8_t *requests);
+
+/* Replays a bench trace: makes the record that of a device after reset, whatever its bytes were, and then each call of
+   the trace, whose answer is compared with the one recorded.
+
+   A trace is text. LF ends each line, one tab parts the fields, numbers are decimal without leading zeros. The first
+   line is "chime", tab, "1". Each line after it is one of these, with numbers up to 255 but for the clocks:
+       W  address  value  answer     a write, and the number that it answered
+       R  address  value  answer     a read: the value, and the number that it answered
+       A  vector  answer             a vector taken, and the number that it answered
+       C  levels  clocks             1 to 4,294,967,295 clocks, each with this level byte, 0 to 31
+
+   Answers 0 with *line 0. Answers 9 if the text is not such a trace, which is looked at first, the whole of it: *line is
+   the first malformed line, from 1, and the record is as after reset. Answers 10 if a call is answered otherwise than
+   recorded: *line is the line of the first such call, and the record is as after that call. Answers 5, with *line 0,
+   if record_len is not 64. */
+uint8_t warpmagpie_replay(uint8_t *record, size_t record_len, const uint8_t *text, size_t text_len, size_t *line);
 
 /* The two calls below choose a baud setting. They take no record, and have no loop. clock_hz is 1 to 20,000,000, rate
    1 to 2,500,000 baud; any other is answered 11, with 0 in every answer. u2x is 0 for normal speed; any other byte is

@@ -1,6 +1,7 @@
 #!/usr/bin/env bash
-# Writes target/staticlib/libwarpmagpie.a, unless it is there and newer than every source. rt proves the crates first, where that has not
-# been done, and makes no archive of what is not proved.
+# Writes target/staticlib/libwarpmagpie.a, unless it is there and newer than every source. rt proves the crates first,
+# where that has not been done, and makes no archive of what is not proved. The archive has a member for each crate with
+# exported calls, compiled by itself (docs/DECISIONS.md, 'Speed'); a rig links those that it calls.
 set -eu
 cd "$(dirname "$0")/.."
 archive=target/staticlib/libwarpmagpie.a
@@ -8,4 +9,12 @@ if [ -e "$archive" ] && [ -z "$(find crates crates.txt -newer "$archive" -print 
 echo "archive: proving and building, which takes some minutes the first time" >&2
 mkdir -p target
 rm -f "$archive"
-rt staticlib warpmagpie >target/staticlib.log 2>&1 || { cat target/staticlib.log; exit 1; }
+for crate in warpmagpie holding; do
+    rt staticlib $crate >target/staticlib.log 2>&1 || { cat target/staticlib.log; exit 1; }
+done
+made=$(mktemp -d)
+trap 'rm -rf "$made"' EXIT
+mv "$archive" "$made/whole.a"
+(cd "$made" && ar x "$OLDPWD/target/staticlib/libholding.a" && ar r whole.a ./*.o) >target/staticlib.log 2>&1 ||
+    { cat target/staticlib.log; exit 1; }
+mv "$made/whole.a" "$archive"

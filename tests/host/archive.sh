@@ -5,7 +5,8 @@ set -eu
 cd "$(dirname "$0")/../.."
 bash scripts/archive.sh
 archive=target/staticlib/libwarpmagpie.a
-bound=20000 # bytes of code and constants, of which there are 16711; the README says 17 kB
+bound=36000      # bytes of code and constants, of which there are 30569; the README says 31 kB
+call_bound=20000 # .. of the member with the calls that every rig makes, which has 16648; the README says 17
 fail() { echo "archive: $*"; exit 1; }
 scratch=$(mktemp -d)
 trap 'rm -rf "$scratch"' EXIT
@@ -26,6 +27,8 @@ judge() { # ARCHIVE
         diff <(echo "$calls") "$scratch/exports" | sed -n 's/^[<>]/exports: &/p'
         nm -u "$1" | awk '$1 == "U" && $2 != "memset" { print "needs " $2 }'
         size -t "$1" | awk -v bound=$bound 'END { if ($1 == 0 || $1 > bound) print $1 " bytes" }'
+        size "$1" | awk -v bound=$call_bound '$6 == "warpmagpie.o" && $1 <= bound { fits = 1 }
+            END { if (!fits) print "warpmagpie.o is missing or too large" }'
     } >"$scratch/faults"
     [ ! -s "$scratch/faults" ]
 }

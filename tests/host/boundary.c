@@ -1,5 +1,5 @@
-/* What the eight calls do at the C boundary: with every length of record, levels and outputs, every address and vector,
-   any bytes, and every byte as U2X. Exits with 1 at the first difference.
+/* What the nine calls do at the C boundary: with every length of record, levels and outputs, every address and vector,
+   any bytes, every length of a trace and every byte as U2X. Exits with 1 at the first difference.
 
    All is done twice: between guard bytes, which this program looks at itself, and in memory of exactly the length that the call is told, so
    that valgrind sees a byte too far. Usage: boundary [short]; short tries a part of the addresses and of the runs. */
@@ -523,6 +523,91 @@ static void copies(const struct plan *plan)
     }
 }
 
+/* ---- traces ---- */
+
+/* The request's whole example, and a line that the device answers otherwise: TXEN and RXEN read 24. */
+static const char TRACE[] = "chime\t1\nW\t193\t24\t0\nR\t192\t32\t0\nC\t17\t16\nR\t193\t25\t0\n";
+
+struct replayed {
+    struct piece record, text, line;
+    uint8_t answer;
+};
+
+/* Of this many bytes of TRACE, on a record of bytes that no device has. */
+static struct replayed replay(const struct plan *plan, size_t record_len, size_t text_len)
+{
+    struct replayed r = {
+        .record = make_filled(GUARD, record_len, plan->guard),
+        .text = make((const uint8_t *)TRACE, sizeof TRACE - 1, text_len, plan->guard),
+        .line = make_filled(GUARD, sizeof(size_t), plan->guard),
+    };
+    r.answer = warpmagpie_replay(r.record.bytes, record_len, r.text.bytes, text_len, (size_t *)(void *)r.line.bytes);
+    untouched("text of a replay", text_len, &r.text);
+    return r;
+}
+
+static void drop_replayed(struct replayed *r)
+{
+    drop(&r->record);
+    drop(&r->text);
+    drop(&r->line);
+}
+
+/* The record after the calls of the first so many lines. */
+static void after_lines(uint8_t record[WARPMAGPIE_RECORD_LEN], size_t lines)
+{
+    uint8_t levels[16], outputs[sizeof levels], value;
+    memset(levels, WARPMAGPIE_LEVEL_RXD | WARPMAGPIE_LEVEL_SS, sizeof levels);
+    warpmagpie_reset(record, WARPMAGPIE_RECORD_LEN);
+    if (lines > 1)
+        warpmagpie_write(record, WARPMAGPIE_RECORD_LEN, WARPMAGPIE_UCSR0B, WARPMAGPIE_RXEN | WARPMAGPIE_TXEN);
+    if (lines > 2)
+        warpmagpie_read(record, WARPMAGPIE_RECORD_LEN, WARPMAGPIE_UCSR0A, &value);
+    if (lines > 3)
+        warpmagpie_run(record, WARPMAGPIE_RECORD_LEN, levels, sizeof levels, outputs, sizeof outputs);
+}
+
+/* Every length of the text: whole lines are played, anything else is malformed in its last line and leaves a reset. */
+static void traces(const struct plan *plan)
+{
+    uint8_t wanted[WARPMAGPIE_RECORD_LEN];
+    size_t lines = 0;
+    for (size_t len = 0; len < sizeof TRACE; len++) {
+        bool whole = len > 0 && TRACE[len - 1] == '\n';
+        lines += whole;
+        bool other = whole && len == sizeof TRACE - 1;
+        size_t line = !whole ? lines + 1 : other ? lines : 0;
+        struct replayed r = replay(plan, WARPMAGPIE_RECORD_LEN, len);
+        expect("replay", len, r.answer, !whole ? WARPMAGPIE_REFUSED_MALFORMED
+                                               : other ? WARPMAGPIE_REFUSED_DIFFERENT : WARPMAGPIE_DONE);
+        holds("line of a replay", len, &r.line, (const uint8_t *)&line);
+        after_lines(wanted, whole ? lines : 0);
+        holds("record after a replay", len, &r.record, wanted);
+        drop_replayed(&r);
+    }
+}
+
+/* A record of a wrong length, with any text; and no text at all. */
+static void traces_refused(const struct plan *plan)
+{
+    const size_t none = 0, first = 1;
+    for (size_t len = 0; len <= LONGEST; len++)
+        for (size_t text_len = 0; text_len < sizeof TRACE && len != WARPMAGPIE_RECORD_LEN; text_len += plan->stride) {
+            struct replayed r = replay(plan, len, text_len);
+            expect("replay on a record of a wrong length", len, r.answer, WARPMAGPIE_REFUSED_RECORD);
+            holds("line of a refused replay", len, &r.line, (const uint8_t *)&none);
+            untouched("record of a refused replay", len, &r.record);
+            drop_replayed(&r);
+        }
+    uint8_t record[WARPMAGPIE_RECORD_LEN];
+    size_t line = none;
+    expect("replay of no text, null", 0, warpmagpie_replay(record, sizeof record, NULL, 0, &line),
+           WARPMAGPIE_REFUSED_MALFORMED);
+    expect("line of no text", 0, line == first, true);
+    expect("replay of nothing on nothing, null", 0, warpmagpie_replay(NULL, 0, NULL, 0, &line), WARPMAGPIE_REFUSED_RECORD);
+    expect("line of nothing", 0, line == none, true);
+}
+
 /* The calls that choose a baud setting store exactly their answers: UBRR, tenths of a percent, yes or no. */
 static void bauds(const struct plan *plan)
 {
@@ -578,6 +663,8 @@ int main(int argc, char **argv)
         addresses(&plan);
         vectors(&plan);
         copies(&plan);
+        traces(&plan);
+        traces_refused(&plan);
         bauds(&plan);
     }
     return 0;

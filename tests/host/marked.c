@@ -127,13 +127,20 @@ static void refusals(void)
     expect("setting under way", warpmagpie_write(record, sizeof record, WARPMAGPIE_UBRR0L, 7),
            WARPMAGPIE_REFUSED_UNDER_WAY);
     expect("record untouched", (unsigned)memcmp(before, record, sizeof before), 0);
+    size_t line = 9;
+    expect("malformed text", warpmagpie_replay(record, sizeof record, (const uint8_t *)"chime\t1\nC\t17\t016\n", 18, &line),
+           WARPMAGPIE_REFUSED_MALFORMED);
+    expect("its line", (unsigned)line, 2);
+    expect("answered otherwise", warpmagpie_replay(record, sizeof record, (const uint8_t *)"chime\t1\nR\t192\t33\t0\n", 19, &line),
+           WARPMAGPIE_REFUSED_DIFFERENT);
+    expect("its line", (unsigned)line, 2);
     uint16_t ubrr = 9;
     int32_t tenths = 9;
     expect("rate out of range", warpmagpie_plan_baud(16000000, 2500001, 0, &ubrr, &tenths), WARPMAGPIE_REFUSED_RANGE);
     expect("answers of a refused plan", ubrr != 0 || tenths != 0, 0);
     expect("clock out of range", warpmagpie_check_baud(0, 9600, 0, 51, &value), WARPMAGPIE_REFUSED_RANGE);
     expect("answer of a refused check", value, 0);
-    puts("refusals 1 to 8 and 11: numbers as given, nothing touched");
+    puts("refusals 1 to 11: numbers as given, nothing touched but by 9 and 10");
 }
 
 int main(void)

@@ -10,3 +10,4 @@ pub mod ClosedHistories
 pub mod Witness
 pub mod Reached
 pub mod TableLaws
+pub mod Replaying

@@ -1,5 +1,5 @@
 -- Every call answers the number that the table gives it, and a refusal leaves everything as it was.
-use Prim.Native.Nat.{ℕ, _/_, _<_}
+use Prim.Native.Nat.{ℕ, _+_, _/_, _<_}
 use mathlib.Core.Bool.{Bool, true, false, not, _&&_, _||_, true≢false}
 use mathlib.Core.List.{List, [], _∷_}
 use mathlib.Core.Path.{_≡_, refl, sym, ap, _∙_}
@@ -16,6 +16,15 @@ use Rattle.planner.specs.declared.outcome.Planned.the-variants.{Done as Settled
 use Rattle.planner.specs.declared.outcome.Checked.{Checked}
 use Rattle.planner.specs.declared.outcome.Checked.the-variants.{Told, Refused as Untold}
 use Rattle.planner.proofs.PlanningLaws.{plans, checks, refuses}
+use Rattle.trace.specs.Contents.{contentsOf}
+use Rattle.trace.specs.Meaning.{IsText}
+use Rattle.trace.specs.declared.item.Item.{Item}
+use Rattle.trace.specs.declared.text.Check.{Check}
+use Rattle.trace.specs.declared.text.Check.the-variants.{WellFormed, Malformed}
+use Rattle.trace.proofs.Reading.{reads}
+use Rattle.playback.specs.Replay.{stepOf, ended, playedFrom, replayBy, replayOf, outcomeNumber}
+use Rattle.playback.specs.declared.replaying.Outcome.the-variants.{Refused as Unplayed}
+use Rattle.playback.specs.declared.replaying.Replayed.{Replayed}
 use Rattle.usart.specs.Unit.{txcRequested}
 use Rattle.usart.specs.Write.{writeOf as serialWriteOf, vectorOf as serialVectorOf}
 use Rattle.usart.proofs.RefusalLaws.{write-number as serial-write, vector-number as serial-vector}
@@ -29,7 +38,7 @@ use Rattle.device.specs.Run.{ranOf, outputsOf, areLevels, shown}
 use Rattle.device.specs.Unit.{resetDevice}
 use Rattle.device.specs.declared.address.Place.{Place}
 use Rattle.device.specs.declared.address.Place.the-variants.{Serial, Spi, Nowhere}
-use Rattle.answer.specs.declared.Refusal.the-variants.{Unknown, Record, Length, Level}
+use Rattle.answer.specs.declared.Refusal.the-variants.{Unknown, Record, Length, Level, Different}
 use Rattle.device.specs.declared.outcome.Reading.{Reading}
 use Rattle.device.specs.declared.outcome.Reading.the-variants.{Done as Value, Refused as NoValue}
 use Rattle.device.specs.declared.outcome.Written.{Written}
@@ -44,9 +53,10 @@ use Rattle.record.specs.Refusing.{NoRecord}
 use Rattle.record.proofs.Five.{five}
 use Rattle.record.proofs.Round.{record-decode}
 use Rattle.warpmagpie.specs.Calls.{kept, keptByRead, resetOn, writeOn, readOn, readAnswer, readValue, vectorOn, runOn, outputsOn, runAnswer, recordAfterRun, outputsAfterRun, requestsAnswerOn, requestsAnswer, requestsValueOn, requestsValue}
+use Rattle.holding.specs.Replay.{replayAnswer}
 use Rattle.warpmagpie.specs.Baud.{planAnswer, planUbrr, planTenths, checkAnswer, checkAccepted}
 use Rattle.history.specs.Call.{run, query, Call, reset, write, read, vector, pass, effect, recordAfter, deviceIn}
-use Rattle.history.specs.Table.{isNoDevice, isNoRecord, isWrongLength, isNoPlace, isNowhere, isNoVector, reservedAt, unmodelledAt, underWayAt, areUneven, hasHighLevel, isUnrequested, isOutOfRange, Numbers}
+use Rattle.history.specs.Table.{isNoDevice, isNoRecord, isWrongLength, isNoPlace, isNowhere, isNoVector, reservedAt, unmodelledAt, underWayAt, areUneven, hasHighLevel, isUnrequested, isBad, isMalformed, hasDifferent, isDifferent, isOutOfRange, Numbers}
 
 -- writes
 write-in : (d : Device) (p : Place) (v : ℕ) → v < 256
@@ -139,6 +149,41 @@ unfolding requestsAnswerOn
 report-table (Accepted d) = refl
 report-table NoDevice = refl
 
+-- replay
+played-by : (t b : Bool) (r : Replayed) (d : Device) (line : ℕ) → outcomeNumber (r .outcome) ≡ pick b 10 0
+    → outcomeNumber (pick t r (ended d (Unplayed Different line)) .outcome) ≡ pick (not t || b) 10 0
+played-by true b r d line h = h
+played-by false b r d line h = refl
+
+played-table : (d : Device) (line : ℕ) (is : List Item) → outcomeNumber (playedFrom d line is .outcome) ≡ pick (hasDifferent d is) 10 0
+unfolding playedFrom hasDifferent
+played-table d line [] = refl
+played-table d line (i ∷ is) =
+    played-by (stepOf d i .same) (hasDifferent (stepOf d i .device) is) (playedFrom (stepOf d i .device) (line + 1) is) (stepOf d i .device) line
+    (played-table (stepOf d i .device) (line + 1) is)
+
+outcome-table : (c : Check) (is : List Item) → outcomeNumber (replayBy c is .outcome) ≡ pick (isBad c) 9 (pick (hasDifferent resetDevice is) 10 0)
+outcome-table WellFormed is = played-table resetDevice 2 is
+outcome-table (Malformed line) is = refl
+
+replay-by : (t : Bool) (m n : ℕ) → m ≡ n → pick t m 5 ≡ pick (not t) 5 n
+replay-by true m n h = h
+replay-by false m n h = refl
+
+replay-table : (s text : List ℕ) → replayAnswer s text ≡ pick (isWrongLength s) 5 (pick (isMalformed text) 9 (pick (isDifferent text) 10 0))
+replay-table s text =
+    replay-by (eqb (length s) recordLength) (outcomeNumber (replayOf text .outcome)) _ (outcome-table (contentsOf text .check) (contentsOf text .items))
+
+-- number 9 by itself
+bad-by : (text : List ℕ) (c : Check) → contentsOf text .check ≡ c → ((is : List Item) → IsText text is → ⊥) → isBad c ≡ true
+bad-by text WellFormed e n = absurd (n (contentsOf text .items) (reads text .wellFormed e))
+bad-by text (Malformed line) e n = refl
+
+malformed-table : (text : List ℕ)
+    → (isMalformed text ≡ true → (is : List Item) → IsText text is → ⊥) × (((is : List Item) → IsText text is → ⊥) → isMalformed text ≡ true)
+malformed-table text =
+    (λ b is w. clash b (ap isBad (reads text .found is w .0)), bad-by text (contentsOf text .check) refl)
+
 -- the baud setting: out of range by the four tests is not in range by theirs
 least-one : (n : ℕ) → eqb n 0 ≡ not (leb 1 n)
 least-one n =
@@ -193,6 +238,8 @@ numbered s = record {
   vector = vector-table (decodeOf s);
   run = run-table (decodeOf s);
   report = report-table (decodeOf s);
+  malformed = malformed-table;
+  replay = replay-table s;
   plan = plan-table;
   check = check-table;
 }

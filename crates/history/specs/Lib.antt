@@ -4,3 +4,4 @@ pub mod Sending
 pub mod Serial
 pub mod Marked
 pub mod Table
+pub mod Replaying

@@ -15,13 +15,21 @@ use Rattle.spi.specs.Refusing.{isUnderWay as isTransferUnderWay}
 use Rattle.device.specs.Address.{placeOf}
 use Rattle.device.specs.declared.address.Place.{Place}
 use Rattle.device.specs.declared.address.Place.the-variants.{Serial, Spi, Nowhere}
+use Rattle.device.specs.Unit.{resetDevice}
 use Rattle.device.specs.declared.unit.Device.{Device}
+use Rattle.trace.specs.Contents.{contentsOf}
+use Rattle.trace.specs.Meaning.{IsText}
+use Rattle.trace.specs.declared.item.Item.{Item}
+use Rattle.trace.specs.declared.text.Check.{Check}
+use Rattle.trace.specs.declared.text.Check.the-variants.{WellFormed, Malformed}
+use Rattle.playback.specs.Replay.{stepOf}
 use Rattle.record.specs.Layout.{recordLength}
 use Rattle.record.specs.Codec.{decodeOf}
 use Rattle.record.specs.Refusing.{NoRecord}
 use Rattle.record.specs.declared.codec.Decoded.{Decoded}
 use Rattle.record.specs.declared.codec.Decoded.the-variants.{Accepted, Refused}
 use Rattle.warpmagpie.specs.Calls.{resetAnswer, writeAnswer, readAnswer, vectorAnswer, runAnswer, requestsAnswer}
+use Rattle.holding.specs.Replay.{replayAnswer}
 use Rattle.warpmagpie.specs.Baud.{planAnswer, checkAnswer}
 use Rattle.history.specs.Call.{deviceOf}
 
@@ -82,11 +90,27 @@ hasHighLevel (l ∷ ls) = not (eqb (l / 32) 0) || hasHighLevel ls
 abbrev pub isUnrequested : Device → ℕ → Bool
 isUnrequested d n = eqb n 0 && not (txcRequested (d .usart)) || eqb n 1 && not (isRequested (d .spi))
 
+-- 9: text malformed (document 02, M-100). As a test it is that some line is; `Numbers` has it by itself
+abbrev pub isBad : Check → Bool
+isBad WellFormed = false
+isBad (Malformed line) = true
+
+abbrev pub isMalformed : List ℕ → Bool
+isMalformed text = isBad (contentsOf text .check)
+
+-- 10: a `W`, `R` or `A` answered otherwise than recorded
+unfoldable pub hasDifferent : Device → List Item → Bool
+hasDifferent d [] = false
+hasDifferent d (i ∷ is) = not (stepOf d i .same) || hasDifferent (stepOf d i .device) is
+
+abbrev pub isDifferent : List ℕ → Bool
+isDifferent text = hasDifferent resetDevice (contentsOf text .items)
+
 -- 11: clock not 1 to 20,000,000 Hz, or rate not 1 to 2,500,000 (document 02, M-104)
 abbrev pub isOutOfRange : ℕ → ℕ → Bool
 isOutOfRange clock rate = (eqb clock 0 || ltb 20000000 clock) || (eqb rate 0 || ltb 2500000 rate)
 
--- order: 5, 1, 2, 3, 4; for a run 5, 6, 7; for a vector 5, 1, 8
+-- order: 5, 1, 2, 3, 4; for a run 5, 6, 7; for a vector 5, 1, 8; for a replay 5, 9, 10
 pub record Numbers (s : List ℕ) : Type 0 where
   pub noRecord : (isNoRecord s ≡ true → NoRecord s) × (NoRecord s → isNoRecord s ≡ true)
   pub reset : resetAnswer s ≡ pick (isWrongLength s) 5 0
@@ -102,5 +126,8 @@ pub record Numbers (s : List ℕ) : Type 0 where
   pub vector : (n : ℕ) → vectorAnswer s n ≡ pick (isNoRecord s) 5 (pick (isNoVector n) 1 (pick (isUnrequested (deviceOf s) n) 8 0))
   pub run : (ls os : List ℕ) → runAnswer s ls os ≡ pick (isNoRecord s) 5 (pick (areUneven ls os) 6 (pick (hasHighLevel ls) 7 0))
   pub report : requestsAnswer s ≡ pick (isNoRecord s) 5 0
+  pub malformed : (text : List ℕ)
+      → (isMalformed text ≡ true → (is : List Item) → IsText text is → ⊥) × (((is : List Item) → IsText text is → ⊥) → isMalformed text ≡ true)
+  pub replay : (text : List ℕ) → replayAnswer s text ≡ pick (isWrongLength s) 5 (pick (isMalformed text) 9 (pick (isDifferent text) 10 0))
   pub plan : (clock rate u2x : ℕ) → planAnswer clock rate u2x ≡ pick (isOutOfRange clock rate) 11 0
   pub check : (clock rate u2x ubrr : ℕ) → checkAnswer clock rate u2x ubrr ≡ pick (isOutOfRange clock rate) 11 0
