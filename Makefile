@@ -1,4 +1,4 @@
-.PHONY: archive install baud demo test compare bench refute
+.PHONY: archive install baud replay demo test compare bench refute
 
 PREFIX ?= /usr/local
 
@@ -12,14 +12,23 @@ install:
 
 # Proves and builds the program that prints the baud setting for a clock and a rate.
 baud:
-	@bash scripts/baud.sh
+	@bash scripts/program.sh baud
 	@echo "target/bin/baud CLOCK RATE, in Hz and baud, as in: target/bin/baud 16000000 115200"
 
-# Builds the archive and the rig in examples/, plays both transfers and writes the waveform.
+# Proves and builds the program that replays a bench trace.
+replay:
+	@bash scripts/program.sh replay
+	@echo "target/bin/replay FILE, as in: target/bin/replay target/demo.trace"
+
+# Builds the archive and the rig in examples/, plays both transfers, writes the waveform and the chime's trace, and
+# replays the trace.
 demo:
 	@bash examples/build.sh
-	@target/rig target/demo.vcd
+	@bash scripts/program.sh replay
+	@target/rig --trace target/demo.trace target/demo.vcd
 	@echo "waveform: target/demo.vcd"
+	@echo "trace: target/demo.trace"
+	@said=$$(target/bin/replay target/demo.trace); echo "replay of the trace: $$said"; [ "$$said" = ok ]
 
 # Proves every crate from nothing, tries the must-fail edits, runs the programs, then the host tests.
 test:

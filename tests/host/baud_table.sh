@@ -3,7 +3,7 @@
 # against a calculation of the test's own, and wrong arguments. The README shows the first example as it is.
 set -eu
 cd "$(dirname "$0")/../.."
-bash scripts/baud.sh
+bash scripts/program.sh baud
 for text in tests/host/baud_table/*_*.txt; do
     pair=$(basename "$text" .txt)
     if ! target/bin/baud "${pair%_*}" "${pair#*_}" | diff "$text" -; then
