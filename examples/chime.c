@@ -19,18 +19,26 @@ static void note_errors(const struct circuit *circuit, struct report *report, ui
     log_note(&circuit->log, &circuit->chime, "the chime will refuse the image; what still comes is read and dropped");
 }
 
-/* Reads the next frame. The flags are read first: they belong to the frame that the next read of UDR0 takes away (document 01).
-   False when none comes. */
-static bool next_frame(struct circuit *circuit, struct report *report)
+/* Waits for the interrupt that says that a frame is held. UCSR0A is not polled meanwhile: a read at each clock would be
+   most of the chime's trace. False when none comes. */
+static bool frame_comes(struct circuit *circuit)
 {
-    struct node *chime = &circuit->chime;
-    uint8_t flags = node_read(chime, WARPMAGPIE_UCSR0A);
-    for (int clocks = 0; !(flags & WARPMAGPIE_RXC); clocks++) {
+    for (int clocks = 0; !(node_requests(&circuit->chime) & WARPMAGPIE_REQUEST_RXC); clocks++) {
         if (clocks == PATIENCE)
             return false;
         circuit_clock(circuit);
-        flags = node_read(chime, WARPMAGPIE_UCSR0A);
     }
+    return true;
+}
+
+/* Reads the next frame. The flags are read first: they belong to the frame that the next read of UDR0 takes away
+   (document 01). False when none comes. */
+static bool next_frame(struct circuit *circuit, struct report *report)
+{
+    struct node *chime = &circuit->chime;
+    if (!frame_comes(circuit))
+        return false;
+    uint8_t flags = node_read(chime, WARPMAGPIE_UCSR0A);
     uint8_t value = node_read(chime, WARPMAGPIE_UDR0);
     log_call(&circuit->log, chime, "read", WARPMAGPIE_UDR0, value, flags);
     if (report->count == CHIME_FRAMES_MAX)

@@ -86,20 +86,26 @@ static void settle(struct circuit *circuit)
         circuit_clock(circuit);
 }
 
-void circuit_start(struct circuit *circuit, const char *vcd_path, FILE *log_to)
+static _Noreturn void stop_without(const char *path)
+{
+    perror(path);
+    exit(EXIT_FAILURE);
+}
+
+void circuit_start(struct circuit *circuit, const char *vcd_path, const char *trace_path, FILE *log_to)
 {
     *circuit = (struct circuit){.log = {log_to}};
     log_title(&circuit->log, "start");
     doorbell_start(&circuit->doorbell, DOORBELL_HERTZ, &circuit->log);
     node_start(&circuit->chime, "chime", CHIME_HERTZ);
+    if (trace_path != NULL && !recorder_open(&circuit->chime.recorder, trace_path))
+        stop_without(trace_path);
     settings_serial(&circuit->chime, &circuit->log);
     settings_spi(&circuit->chime, &circuit->log);
     log_gap(&circuit->log);
     flash_start(&circuit->flash);
-    if (vcd_path != NULL && !vcd_open(&circuit->vcd, vcd_path, NAMES, SIGNALS, waveform(circuit))) {
-        perror(vcd_path);
-        exit(EXIT_FAILURE);
-    }
+    if (vcd_path != NULL && !vcd_open(&circuit->vcd, vcd_path, NAMES, SIGNALS, waveform(circuit)))
+        stop_without(vcd_path);
     settle(circuit);
 }
 
@@ -114,4 +120,6 @@ void circuit_stop(struct circuit *circuit)
 {
     if (!vcd_close(&circuit->vcd, node_nanoseconds(&circuit->chime)))
         node_stop(&circuit->chime, "the waveform could not be written");
+    if (!recorder_close(&circuit->chime.recorder))
+        node_stop(&circuit->chime, "the trace could not be written");
 }

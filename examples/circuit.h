@@ -18,8 +18,8 @@ struct circuit {
     struct vcd vcd;
 };
 
-/* vcd_path may be null: no waveform. */
-void circuit_start(struct circuit *circuit, const char *vcd_path, FILE *log_to);
+/* vcd_path may be null: no waveform; so may trace_path: the chime is not recorded. */
+void circuit_start(struct circuit *circuit, const char *vcd_path, const char *trace_path, FILE *log_to);
 
 /* Passes one clock of the chime, and those of the doorbell that come before it; the doorbell's program runs after each
    of its own. */

@@ -2,26 +2,23 @@
 
 #include "settings.h"
 
-enum {
-    FILLER = 0xFF, /* sent where only the answer counts */
-    PATIENCE = 2 * SPI_BYTE_CLOCKS
-};
+enum { FILLER = 0xFF }; /* sent where only the answer counts */
 
 struct exchanged {
     uint8_t value, flags;
 };
 
-/* The rest of an exchange that a write to SPDR began. SPIF is cleared by reading SPSR with it set, then SPDR (document 01). */
+/* The rest of an exchange that a write to SPDR began. SPI_BYTE_CLOCKS bring it to its end, so SPSR is read only then.
+   SPIF is cleared by reading SPSR with it set, then SPDR (document 01). */
 static struct exchanged finish(struct circuit *circuit)
 {
     struct node *chime = &circuit->chime;
     struct exchanged got = {0, 0};
-    for (int clocks = 0; !(got.flags & WARPMAGPIE_SPIF); clocks++) {
-        if (clocks == PATIENCE)
-            node_stop(chime, "SPIF did not come");
+    for (int clocks = 0; clocks < SPI_BYTE_CLOCKS; clocks++)
         circuit_clock(circuit);
-        got.flags = node_read(chime, WARPMAGPIE_SPSR);
-    }
+    got.flags = node_read(chime, WARPMAGPIE_SPSR);
+    if (!(got.flags & WARPMAGPIE_SPIF))
+        node_stop(chime, "SPIF did not come");
     if (got.flags & WARPMAGPIE_WCOL)
         node_stop(chime, "SPDR was written during a transfer");
     got.value = node_read(chime, WARPMAGPIE_SPDR);

@@ -25,10 +25,12 @@ const char *node_register_name(uint16_t address)
     }
 }
 
-_Noreturn void node_stop(const struct node *node, const char *message)
+_Noreturn void node_stop(struct node *node, const char *message)
 {
     fflush(stdout);
     fprintf(stderr, "rig: %s, clock %" PRIu64 ": %s\n", node->name, node->clocks, message);
+    if (!recorder_close(&node->recorder))
+        fprintf(stderr, "rig: %s: the trace could not be written\n", node->name);
     exit(EXIT_FAILURE);
 }
 
@@ -51,13 +53,16 @@ void node_start(struct node *node, const char *name, uint64_t hertz)
 
 void node_write(struct node *node, uint16_t address, uint8_t value)
 {
-    check(node, "write ", node_register_name(address), warpmagpie_write(node->record, sizeof node->record, address, value));
+    uint8_t answer = warpmagpie_write(node->record, sizeof node->record, address, value);
+    recorder_write(&node->recorder, address, value, answer);
+    check(node, "write ", node_register_name(address), answer);
 }
 
 uint8_t node_read(struct node *node, uint16_t address)
 {
-    uint8_t value = 0;
-    check(node, "read ", node_register_name(address), warpmagpie_read(node->record, sizeof node->record, address, &value));
+    uint8_t value = 0, answer = warpmagpie_read(node->record, sizeof node->record, address, &value);
+    recorder_read(&node->recorder, address, value, answer);
+    check(node, "read ", node_register_name(address), answer);
     return value;
 }
 
@@ -71,12 +76,15 @@ uint8_t node_requests(struct node *node)
 void node_take_vector(struct node *node, uint8_t vector)
 {
     const char *name = vector == WARPMAGPIE_VECTOR_TXC ? "TXC" : vector == WARPMAGPIE_VECTOR_SPIF ? "SPIF" : "?";
-    check(node, "vector ", name, warpmagpie_take_vector(node->record, sizeof node->record, vector));
+    uint8_t answer = warpmagpie_take_vector(node->record, sizeof node->record, vector);
+    recorder_vector(&node->recorder, vector, answer);
+    check(node, "vector ", name, answer);
 }
 
 void node_clock(struct node *node, uint8_t levels)
 {
     check(node, "run", "", warpmagpie_run(node->record, sizeof node->record, &levels, 1, &node->output, 1));
+    recorder_clocks(&node->recorder, levels, 1);
     node->clocks++;
 }
 

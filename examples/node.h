@@ -1,10 +1,12 @@
 /* A device of the circuit: its record, its crystal, its name; and the archive's calls on it. Each call's answer is
-   looked at: a refusal stops the program with a message that names device, call and answer. */
+   recorded, where the node's recorder is open, and looked at: a refusal stops the program with a message that names
+   device, call and answer. */
 #ifndef EXAMPLES_NODE_H
 #define EXAMPLES_NODE_H
 
 #include <stdbool.h>
 
+#include "recorder.h"
 #include "warpmagpie.h"
 
 struct node {
@@ -14,6 +16,7 @@ struct node {
     uint8_t output;  /* output byte of the last clock; 0, nothing driven, before the first */
     uint8_t answer;  /* of the last call, for the log */
     uint8_t record[WARPMAGPIE_RECORD_LEN];
+    struct recorder recorder; /* open if someone opened it after node_start */
 };
 
 void node_start(struct node *node, const char *name, uint64_t hertz);
@@ -31,8 +34,8 @@ bool node_is_next(const struct node *node, const struct node *other);
 /* Time of the last clock, rounded down. */
 uint64_t node_nanoseconds(const struct node *node);
 
-/* Ends the program with a message: for what must not happen in the circuit. */
-_Noreturn void node_stop(const struct node *node, const char *message);
+/* Ends the program with a message: for what must not happen in the circuit. The node's trace goes up to here. */
+_Noreturn void node_stop(struct node *node, const char *message);
 
 const char *node_register_name(uint16_t address);
 

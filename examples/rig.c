@@ -3,8 +3,9 @@
    Image 1 arrives whole, though the chime's crystal is 1.5 percent off. During image 2 the chime erases a flash page and does not read
    UDR0: a frame is lost, the frame after it carries DOR, the chime refuses the image. Exits with 0 if exactly that was seen.
 
-   Usage: rig [--quiet | --sent] [waveform.vcd]
-   --quiet prints the summary only; --sent prints the bytes that have to be on the wires, for tests/host/waves.sh. */
+   Usage: rig [--quiet | --sent] [--trace chime.trace] [waveform.vcd]
+   --quiet prints the summary only; --sent prints the bytes that have to be on the wires and the record that the chime
+   ends with, for the tests in tests/host/; --trace records the chime, from its reset to the end, for a replay. */
 #include <stdlib.h>
 #include <string.h>
 
@@ -102,15 +103,23 @@ static void print_sent(const struct transfer *transfer)
         print_bytes("read", payload, IMAGE_PAYLOAD_LEN);
 }
 
-static bool options(int argc, char **argv, enum output *output, const char **path)
+struct options {
+    enum output output;
+    const char *vcd_path, *trace_path; /* null: not written */
+};
+
+static bool options(int argc, char **argv, struct options *options)
 {
+    *options = (struct options){.output = LOG};
     for (int i = 1; i < argc; i++) {
         if (strcmp(argv[i], "--quiet") == 0)
-            *output = SUMMARY;
+            options->output = SUMMARY;
         else if (strcmp(argv[i], "--sent") == 0)
-            *output = SENT;
-        else if (argv[i][0] != '-' && *path == NULL)
-            *path = argv[i];
+            options->output = SENT;
+        else if (strcmp(argv[i], "--trace") == 0 && i + 1 < argc && options->trace_path == NULL)
+            options->trace_path = argv[++i];
+        else if (argv[i][0] != '-' && options->vcd_path == NULL)
+            options->vcd_path = argv[i];
         else
             return false;
     }
@@ -121,24 +130,24 @@ int main(int argc, char **argv)
 {
     struct transfer first = {.slot = &SLOT_1}, second = {.slot = &SLOT_2};
     struct circuit circuit;
-    enum output output = LOG;
-    const char *path = NULL;
-    if (!options(argc, argv, &output, &path)) {
-        fputs("usage: rig [--quiet | --sent] [waveform.vcd]\n", stderr);
+    struct options chosen;
+    if (!options(argc, argv, &chosen)) {
+        fputs("usage: rig [--quiet | --sent] [--trace chime.trace] [waveform.vcd]\n", stderr);
         return EXIT_FAILURE;
     }
     image_make(&first.image, SEED_1);
     image_make(&second.image, SEED_2);
-    circuit_start(&circuit, path, output == LOG ? stdout : NULL);
+    circuit_start(&circuit, chosen.vcd_path, chosen.trace_path, chosen.output == LOG ? stdout : NULL);
     memset(circuit.flash.cells + SLOT_2.address, OLD_FIRMWARE, FLASH_PAGE_LEN);
     run(&circuit, &first, "image 1: the chime reads each frame in time");
     run(&circuit, &second, "image 2: the chime is busy for some frames");
     circuit_stop(&circuit);
 
-    if (output == SENT) {
+    if (chosen.output == SENT) {
         printf("baud %d\n", (int)(circuit.doorbell.node.hertz / SERIAL_BIT_CLOCKS));
         print_sent(&first);
         print_sent(&second);
+        print_bytes("record", circuit.chime.record, sizeof circuit.chime.record);
     } else {
         print_summary(1, &first);
         print_summary(2, &second);

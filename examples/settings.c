@@ -11,7 +11,7 @@ void settings_serial(struct node *node, const struct log *log)
     put(node, log, WARPMAGPIE_UBRR0H, 0);
     put(node, log, WARPMAGPIE_UBRR0L, SERIAL_UBRR);
     put(node, log, WARPMAGPIE_UCSR0C, WARPMAGPIE_UCSZ1 | WARPMAGPIE_UCSZ0);
-    put(node, log, WARPMAGPIE_UCSR0B, WARPMAGPIE_TXCIE | WARPMAGPIE_RXEN | WARPMAGPIE_TXEN);
+    put(node, log, WARPMAGPIE_UCSR0B, WARPMAGPIE_RXCIE | WARPMAGPIE_TXCIE | WARPMAGPIE_RXEN | WARPMAGPIE_TXEN);
 }
 
 void settings_spi(struct node *node, const struct log *log)
