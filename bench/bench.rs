@@ -9,8 +9,10 @@ mod archive;
 #[allow(dead_code)]
 #[path = "../tests/host/model/mod.rs"]
 mod model;
+mod replays;
 
 use model::{address, level, record, spi, usart, Device};
+use replays::{Line, Trace};
 use std::hint::black_box;
 use std::slice::{from_mut, from_ref};
 use std::time::Instant;
@@ -201,6 +203,45 @@ fn model_turns<const RUN: bool, const REPORT: bool>(device: &mut Device, levels:
     }
 }
 
+/// The trace of a device that is sent frames and sends them back as often: a line for each bit.
+fn frames_trace(ubrr: u8, count: usize) -> Trace {
+    let bit_clocks = TICKS as u32 * (u32::from(ubrr) + 1);
+    let mut lines = vec![
+        Line::Write(address::UBRR0L as u8, ubrr),
+        Line::Write(address::UCSR0B as u8, usart::RXEN | usart::TXEN),
+        Line::Clocks(IDLE, bit_clocks),
+    ];
+    for _ in 0..count {
+        lines.push(Line::Write(address::UDR0 as u8, BYTE));
+        lines.extend(frame(ubrr).chunks(bit_clocks as usize).map(|bit| Line::Clocks(bit[0], bit_clocks)));
+        lines.push(Line::Read(address::UDR0 as u8, BYTE));
+    }
+    Trace::of(&lines)
+}
+
+/// An idle device at `SLOW`.
+fn idle_trace(clocks: u32) -> Trace {
+    Trace::of(&[
+        Line::Write(address::UBRR0L as u8, SLOW),
+        Line::Write(address::UCSR0B as u8, usart::RXEN | usart::TXEN),
+        Line::Clocks(IDLE, clocks),
+    ])
+}
+
+fn print_replays(rounds: usize) {
+    println!("{:<46}{:>9}{:>9}{:>9}", "ns a clock of a replay", "replay", "calls", "ratio");
+    for (name, trace) in [
+        ("50 frames each way, UBRR 0, a line a bit", frames_trace(0, 50)),
+        ("50 frames each way, UBRR 51, a line a bit", frames_trace(SLOW, 50)),
+        ("idle, UBRR 51, one line of 400000", idle_trace(400_000)),
+    ] {
+        let [replay, calls] = replays::race(&trace, rounds);
+        println!("{name:<46}{replay:>9.2}{calls:>9.2}{:>9.2}", replay / calls);
+    }
+    let text = b"chime\t1\nW\t196\t51\t0\nW\t193\t24\t0\nC\t17\t4294967295\n";
+    println!("ns of a replay, idle, 4294967295 clocks {:>15.0}", replays::whole(text, rounds));
+}
+
 /// Runs something and lowers the best time so far.
 fn time(best: &mut f64, clocks: usize, run: impl FnOnce()) {
     let begun = Instant::now();
@@ -294,4 +335,5 @@ fn main() {
     let rounds = std::env::args().nth(1).map_or(ROUNDS, |word| word.parse().expect("a number of rounds"));
     print_table("ns a clock", &runs(), rounds);
     print_table("ns a run of one clock, each with a report", &turns(), rounds);
+    print_replays(rounds);
 }

@@ -1,4 +1,5 @@
-//! The archive's six calls (include/warpmagpie.h) as safe functions on slices. The only unsafe code of the program.
+//! The archive's calls on a record (include/warpmagpie.h) as safe functions on slices. The only unsafe code of the
+//! program.
 
 use std::ffi::c_uchar;
 
@@ -16,6 +17,13 @@ extern "C" {
         outputs_len: usize,
     ) -> u8;
     fn warpmagpie_requests(record: *const c_uchar, record_len: usize, requests: *mut u8) -> u8;
+    fn warpmagpie_replay(
+        record: *mut c_uchar,
+        record_len: usize,
+        text: *const u8,
+        text_len: usize,
+        line: *mut usize,
+    ) -> u8;
 }
 
 // Each pointer below comes from a slice or reference that is borrowed for the call, with that slice's own length, and
@@ -52,4 +60,9 @@ pub fn run(record: &mut [u8], levels: &[u8], outputs: &mut [u8]) -> u8 {
 
 pub fn requests(record: &[u8], requests: &mut u8) -> u8 {
     unsafe { warpmagpie_requests(record.as_ptr(), record.len(), requests) }
+}
+
+#[allow(dead_code)] // not every program that has these calls replays
+pub fn replay(record: &mut [u8], text: &[u8], line: &mut usize) -> u8 {
+    unsafe { warpmagpie_replay(record.as_mut_ptr(), record.len(), text.as_ptr(), text.len(), line) }
 }
