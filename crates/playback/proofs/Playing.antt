@@ -1,19 +1,21 @@
--- The loop of a replay: what is left of the text gives what the whole gives.
+-- What the code of a replay is proved from. The loop: what is left of the text gives what the whole gives.
 use Prim.Native.Nat.{ℕ, _+_, _<_, _≤_}
 use mathlib.Core.Path.{_≡_, refl, ap, sym, _∙_}
 use mathlib.Core.Bool.{true, false}
 use mathlib.Core.List.{List, [], _∷_}
 use native.Mathlib.Omega.{arith}
 use lib.ListN.{length}
-use Rattle.answer.specs.declared.Refusal.the-variants.{Different}
+use Rattle.answer.specs.declared.Refusal.the-variants.{Malformed as BadText, Different}
 use Rattle.device.specs.Unit.{resetDevice}
 use Rattle.device.specs.declared.unit.Device.{Device}
-use Rattle.trace.specs.Contents.{Contents, contentsAt}
+use Rattle.trace.specs.Contents.{Contents, contentsAt, contentsOf}
 use Rattle.trace.specs.Line.{lineAt}
 use Rattle.trace.specs.declared.item.Item.{Item}
 use Rattle.trace.specs.declared.line.Line.the-variants.{Found, Malformed, End}
-use Rattle.trace.proofs.ContentsLaws.{line-after, contents-found, contents-malformed, contents-end, contents-over}
-use Rattle.playback.specs.Replay.{stepOf, ended, playedFrom}
+use Rattle.trace.specs.declared.text.Check.{Check}
+use Rattle.trace.specs.declared.text.Check.the-variants.{WellFormed, Malformed as BadLine}
+use Rattle.trace.proofs.ContentsLaws.{well-contents, line-after, contents-found, contents-malformed, contents-end, contents-over}
+use Rattle.playback.specs.Replay.{stepOf, ended, playedFrom, replayBy, replayOf}
 use Rattle.playback.specs.declared.replaying.Outcome.the-variants.{Done, Refused}
 use Rattle.playback.specs.declared.replaying.Replayed.{Replayed}
 use Rattle.playback.specs.declared.step.Step.{Step}
@@ -77,3 +79,16 @@ module _ (text : List ℕ) (d : Device) (at line : ℕ) (p : Playing text d at l
 
   pub playing-over : length text ≤ at → ended d Done ≡ whole text
   playing-over h = sym (played-end d line) ∙ left-by _ (contents-over text at line h)
+
+-- the two ways that the code goes
+pub replay-well : (text : List ℕ) (c : Check) (r : Replayed) → c ≡ contentsOf text .check → c ≡ WellFormed
+    → r ≡ playedFrom resetDevice 2 (contentsAt text 8 2 .items) → r ≡ replayOf text
+replay-well text c r p q e =
+    let w : contentsOf text .check ≡ WellFormed = sym p ∙ q in
+    e ∙ ap (λ (is : List Item). playedFrom resetDevice 2 is) (ap (λ (x : _). x .items) (sym (well-contents text w)))
+    ∙ ap (λ (x : Check). replayBy x (contentsOf text .items)) (sym w)
+
+pub replay-malformed : (text : List ℕ) (c : Check) (line : ℕ) (d : Device) → c ≡ contentsOf text .check → c ≡ BadLine line → d ≡ resetDevice
+    → ended d (Refused BadText line) ≡ replayOf text
+replay-malformed text c line d p q e =
+    ap (λ (x : Device). ended x (Refused BadText line)) e ∙ ap (λ (x : Check). replayBy x (contentsOf text .items)) (sym q ∙ p)

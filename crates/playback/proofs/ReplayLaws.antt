@@ -1,6 +1,6 @@
 -- A replay keeps to the request's words.
 use Prim.Native.Nat.{ℕ, _+_}
-use mathlib.Core.Path.{_≡_, refl, ap, ap₂, sym, _∙_}
+use mathlib.Core.Path.{_≡_, refl, ap, ap₂, _∙_}
 use mathlib.Core.Bool.{true, false, _&&_}
 use mathlib.Core.List.{List, [], _∷_, _++_}
 use native.Mathlib.Omega.{arith}
@@ -8,23 +8,20 @@ use lib.Dec.{eqb}
 use lib.ListN.{length}
 use borrow.Author.Tests.{eq-eqb, eqb-true, ne-eqb}
 use Rattle.choice.proofs.Picks.{split}
-use Rattle.answer.specs.declared.Refusal.the-variants.{Malformed, Different}
+use Rattle.answer.specs.declared.Refusal.the-variants.{Different}
 use Rattle.device.specs.Outcome.{answerOf, readAnswerOf, valueOf}
 use Rattle.device.specs.Register.{writeOf, readOf, vectorOf}
 use Rattle.device.specs.Unit.{resetDevice}
 use Rattle.device.specs.declared.unit.Device.{Device}
-use Rattle.trace.specs.Contents.{contentsOf, contentsAt}
+use Rattle.trace.specs.Contents.{contentsOf}
 use Rattle.trace.specs.Meaning.{IsText}
 use Rattle.trace.specs.declared.item.Item.{Item}
 use Rattle.trace.specs.declared.item.Item.the-variants.{Write, Read, Vector, Clocks}
 use Rattle.trace.specs.declared.text.Check.{Check}
-use Rattle.trace.specs.declared.text.Check.the-variants.{WellFormed, Malformed as BadLine}
-use Rattle.trace.proofs.ContentsLaws.{well-contents}
 use Rattle.trace.proofs.Reading.{reads}
 use Rattle.playback.specs.Replay.{stepOf, ended, playedFrom, replayBy, replayOf}
 use Rattle.playback.specs.Meaning.{afterItems, Agrees, AllAgree, Replays}
 use Rattle.playback.specs.declared.replaying.Outcome.the-variants.{Done, Refused}
-use Rattle.playback.specs.declared.replaying.Replayed.{Replayed}
 use Rattle.playback.proofs.Playing.{played-same, played-other, played-end}
 
 -- the comparison says whether the device agrees
@@ -71,16 +68,3 @@ replays text = record {
   different = λ is i js w a h. well-played text (is ++ i ∷ js) w ∙ played-first resetDevice 2 is i js a h;
   malformed = λ line m. ap (λ (c : Check). replayBy c (contentsOf text .items)) (reads text .refused line m);
 }
-
--- the two ways that the code goes
-pub replay-well : (text : List ℕ) (c : Check) (r : Replayed) → c ≡ contentsOf text .check → c ≡ WellFormed
-    → r ≡ playedFrom resetDevice 2 (contentsAt text 8 2 .items) → r ≡ replayOf text
-replay-well text c r p q e =
-    let w : contentsOf text .check ≡ WellFormed = sym p ∙ q in
-    e ∙ ap (λ (is : List Item). playedFrom resetDevice 2 is) (ap (λ (x : _). x .items) (sym (well-contents text w)))
-    ∙ ap (λ (x : Check). replayBy x (contentsOf text .items)) (sym w)
-
-pub replay-malformed : (text : List ℕ) (c : Check) (line : ℕ) (d : Device) → c ≡ contentsOf text .check → c ≡ BadLine line → d ≡ resetDevice
-    → ended d (Refused Malformed line) ≡ replayOf text
-replay-malformed text c line d p q e =
-    ap (λ (x : Device). ended x (Refused Malformed line)) e ∙ ap (λ (x : Check). replayBy x (contentsOf text .items)) (sym q ∙ p)

@@ -41,14 +41,14 @@ stepOf d (Clocks l c) = record { device = heldOf d l c; same = true }
 abbrev pub ended : Device → Outcome → Replayed
 ended d o = record { device = d; outcome = o }
 
--- the items, of which the first stands in this line: 10 for the first one 'answered otherwise than recorded', with 'the
--- device as after that call'
+-- the items, of which the first stands in this line: 10 for the first one 'answered otherwise than recorded', which
+-- 'leaves the device as after that call'
 unfoldable pub playedFrom : Device → ℕ → List Item → Replayed
 playedFrom d line [] = ended d Done
 playedFrom d line (i ∷ is) =
     pick (stepOf d i .same) (playedFrom (stepOf d i .device) (line + 1) is) (ended (stepOf d i .device) (Refused Different line))
 
--- 9 for a malformed text, with the device 'as at reset'
+-- 9 for a malformed text, which leaves it 'as at reset'
 abbrev pub replayBy : Check → List Item → Replayed
 replayBy WellFormed is = playedFrom resetDevice 2 is
 replayBy (BadLine line) is = ended resetDevice (Refused Malformed line)
@@ -56,7 +56,7 @@ replayBy (BadLine line) is = ended resetDevice (Refused Malformed line)
 abbrev pub replayOf : List ℕ → Replayed
 replayOf text = replayBy (contentsOf text .check) (contentsOf text .items)
 
--- the number and the line that the rig sees: 'the line of a done replay is 0'
+-- the number and the line that the rig sees; a done replay answers line 0
 abbrev pub outcomeNumber : Outcome → ℕ
 outcomeNumber Done = 0
 outcomeNumber (Refused r line) = numberOf r

@@ -1,4 +1,4 @@
--- The number of a malformed line is the one that counting LF gives.
+-- The text of items has one LF for each line, so lines are counted by LF.
 use Prim.Native.Nat.{ℕ, _+_, _<_}
 use mathlib.Core.Path.{_≡_, refl, ap, ap₂, _∙_}
 use mathlib.Core.List.{List, [], _∷_, _++_}
@@ -10,7 +10,7 @@ use Rattle.choice.proofs.Picks.{split}
 use Rattle.decimal.specs.Digits.{digitsOf}
 use Rattle.decimal.proofs.DigitLaws.{digits-one, digits-more, digits-ind}
 use Rattle.trace.specs.Text.{fieldsOf, lineOf, linesOf, textOf, firstLine}
-use Rattle.trace.specs.Meaning.{MalformedAt, first, later, feedsIn, Begins}
+use Rattle.trace.specs.Meaning.{feedsIn}
 use Rattle.trace.specs.declared.item.Item.{Item}
 use Rattle.trace.specs.declared.item.Item.the-variants.{Write, Read, Vector, Clocks}
 
@@ -65,8 +65,5 @@ feeds-first : feedsIn firstLine ≡ 1
 unfolding feedsIn
 feeds-first = refl
 
-pub line-begins : (text : List ℕ) (line : ℕ) → MalformedAt text line → Begins text line
-line-begins text line (first n) = record { before = []; rest = text; shown = refl; counted = omega (arith, feeds-none) }
-line-begins text line (later is rest r e l n) =
-    let f = feeds-append firstLine (linesOf is) in
-    record { before = textOf is; rest = rest; shown = e; counted = omega (arith, f, feeds-first, feeds-lines is) }
+pub feeds-text : (is : List Item) → feedsIn (textOf is) ≡ 1 + length is
+feeds-text is = omega (arith, feeds-append firstLine (linesOf is), feeds-first, feeds-lines is)

@@ -41,6 +41,7 @@ contentsBy (suc n) text at line = withLine line (lineAt text at) (contentsBy n t
 unfoldable pub contentsAt : List ℕ → ℕ → ℕ → Contents
 contentsAt text at line = contentsBy (length text - at) text at line
 
+-- the text begins with these bytes
 unfoldable pub startsWith : List ℕ → List ℕ → Bool
 startsWith [] text = true
 startsWith (x ∷ head) [] = false

@@ -34,6 +34,12 @@ pub data MalformedAt (text : List ℕ) : ℕ → Type 0 where
   later : (is : List Item) (rest : List ℕ) → AllInRange is → text ≡ textOf is ++ rest → 0 < length rest → NoLine rest
       → MalformedAt text (2 + length is)
 
+-- how many LF there are. The text of items has one for each and one more (`feeds-text` in proofs/LineCount.antt), so the
+-- line above has the number that an editor gives it: one more than the LF before it
+unfoldable pub feedsIn : List ℕ → ℕ
+feedsIn [] = 0
+feedsIn (b ∷ s) = pick (eqb b 10) (1 + feedsIn s) (feedsIn s)
+
 -- a text is read as well-formed exactly if it is the text of some items in range, and then those are its items, and no
 -- others; else it is read as malformed exactly at the first line that is
 pub record Reads (text : List ℕ) : Type 0 where
@@ -41,15 +47,3 @@ pub record Reads (text : List ℕ) : Type 0 where
   pub found : (is : List Item) → IsText text is → (contentsOf text .check ≡ WellFormed) × (contentsOf text .items ≡ is)
   pub malformed : (line : ℕ) → contentsOf text .check ≡ Malformed line → MalformedAt text line
   pub refused : (line : ℕ) → MalformedAt text line → contentsOf text .check ≡ Malformed line
-
--- how many LF there are
-unfoldable pub feedsIn : List ℕ → ℕ
-feedsIn [] = 0
-feedsIn (b ∷ s) = pick (eqb b 10) (1 + feedsIn s) (feedsIn s)
-
--- the line that begins here has this number, as an editor counts: one more than the LF before it
-pub record Begins (text : List ℕ) (line : ℕ) : Type 0 where
-  pub before : List ℕ
-  pub rest : List ℕ
-  pub shown : text ≡ before ++ rest
-  pub counted : line ≡ 1 + feedsIn before

@@ -1,4 +1,4 @@
-use Rattle.playback.proofs.ReplayLaws.{replay-well, replay-malformed}
+use Rattle.playback.proofs.Playing.{replay-well, replay-malformed}
 use mathlib.Core.Path.{_∙_}
 use borrow.Author.Needs.{needs}
 use Rattle.playback.proofs.replaying.replay.Statement.{statement}
