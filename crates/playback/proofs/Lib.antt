@@ -1,2 +1,3 @@
 pub mod Playing
 pub mod ReplayLaws
+pub mod Examples

@@ -50,11 +50,8 @@ module _ (text : List ℕ) (d : Device) (at line : ℕ) (p : Playing text d at l
   left-by c e = ap (λ (x : Contents). playedFrom d line (x .items)) (sym e) ∙ p .left
 
   module _ (i : Item) (next : ℕ) (s : Step) (e : lineAt text at ≡ Found i next) (q : s ≡ stepOf d i) where
-    pub playing-small : line + 1 < next
+    playing-small : line + 1 < next
     playing-small = omega (arith, line-after text at i next e, p .small)
-
-    pub playing-within : next ≤ length text
-    playing-within = line-after text at i next e .1
 
     pub playing-on : s .same ≡ true → Playing text (s .device) next (line + 1)
     playing-on h = record {

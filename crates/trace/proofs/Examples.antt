@@ -13,12 +13,12 @@ use Rattle.trace.specs.declared.item.Item.the-variants.{Write, Read, Clo
 use Rattle.trace.specs.declared.text.Check.the-variants.{WellFormed, Malformed}
 
 -- chime>1, W>193>24>0, R>192>32>0, C>17>16
-abbrev example : List ℕ
+abbrev pub example : List ℕ
 example =
     99 ∷ 104 ∷ 105 ∷ 109 ∷ 101 ∷ 9 ∷ 49 ∷ 10 ∷ 87 ∷ 9 ∷ 49 ∷ 57 ∷ 51 ∷ 9 ∷ 50 ∷ 52 ∷ 9 ∷ 48 ∷ 10
     ∷ 82 ∷ 9 ∷ 49 ∷ 57 ∷ 50 ∷ 9 ∷ 51 ∷ 50 ∷ 9 ∷ 48 ∷ 10 ∷ 67 ∷ 9 ∷ 49 ∷ 55 ∷ 9 ∷ 49 ∷ 54 ∷ 10 ∷ []
 
-abbrev items : List Item
+abbrev pub items : List Item
 items = Write 193 24 0 ∷ Read 192 32 0 ∷ Clocks 17 16 ∷ []
 
 pub example-text : textOf items ≡ example
