@@ -34,7 +34,8 @@ demo:
 test:
 	@bash tests/run
 
-# The archive against the independent model: make compare SEED=7 SCALE=5 does five times what the test does, with another seed.
+# The archive against the independent model: make compare SEED=7 SCALE=5 does five times what the test does, with
+# another seed.
 compare:
 	@bash tests/host/compare.sh $(if $(SEED),--seed $(SEED)) $(if $(SCALE),--scale $(SCALE))
 
@@ -43,6 +44,7 @@ bench:
 	@bash bench/run.sh
 	@bash bench/instructions.sh
 
-# The negation of a statement, proved of each wrong program that refutations/ has: make refute NAME=wrong_senders for one.
+# The negation of a statement, proved of each wrong program that refutations/ has: make refute NAME=wrong_senders for
+# one.
 refute:
 	@bash scripts/refute.sh $(NAME)

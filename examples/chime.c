@@ -48,8 +48,8 @@ static bool next_frame(struct circuit *circuit, struct report *report)
     return true;
 }
 
-/* After a lost frame every later byte stands one place too early. So once a flag was seen, nothing is taken as header, payload or
-   checksum. */
+/* After a lost frame every later byte stands one place too early. So once a flag was seen, nothing is taken as header,
+   payload or checksum. */
 static bool next_clean_frame(struct circuit *circuit, struct report *report)
 {
     return next_frame(circuit, report) && report->errors == 0;

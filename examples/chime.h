@@ -1,4 +1,5 @@
-/* The chime's program: it takes an image from its USART, writes the payload to the flash as it arrives, and accepts or refuses it. */
+/* The chime's program: it takes an image from its USART, writes the payload to the flash as it arrives, and accepts or
+   refuses it. */
 #ifndef EXAMPLES_CHIME_H
 #define EXAMPLES_CHIME_H
 

@@ -1,5 +1,6 @@
-/* A stand-in for a serial flash: a slave in mode 0, high bit first, which sees SCK, MOSI and SS at each clock of the chime and gives MISO.
-   It takes a command when SS rises after a whole byte. Programming can only clear bits, so a page that was in use is erased first. */
+/* A stand-in for a serial flash: a slave in mode 0, high bit first, which sees SCK, MOSI and SS at each clock of the
+   chime and gives MISO. It takes a command when SS rises after a whole byte. Programming can only clear bits, so a page
+   that was in use is erased first. */
 #ifndef EXAMPLES_FLASH_H
 #define EXAMPLES_FLASH_H
 

@@ -1,5 +1,5 @@
-/* A firmware image on the wire: two magic bytes, the payload's length as 16 bits low byte first, the payload, a CRC-8 over all that
-   stands before it. */
+/* A firmware image on the wire: two magic bytes, the payload's length as 16 bits low byte first, the payload, a CRC-8
+   over all that stands before it. */
 #ifndef EXAMPLES_IMAGE_H
 #define EXAMPLES_IMAGE_H
 

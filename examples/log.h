@@ -13,8 +13,8 @@ struct log {
 void log_title(const struct log *log, const char *title);
 void log_gap(const struct log *log);
 
-/* The call ("write" or "read") that the node has just done. The flags are those read before it, of UCSR0A for UDR0 and of SPSR for SPDR;
-   0 where none were read. */
+/* The call ("write" or "read") that the node has just done. The flags are those read before it, of UCSR0A for UDR0 and
+   of SPSR for SPDR; 0 where none were read. */
 void log_call(const struct log *log, const struct node *node, const char *call, uint16_t address, uint8_t value, uint8_t flags);
 
 /* The vector that the node has just taken. */

@@ -28,7 +28,8 @@ void node_take_vector(struct node *node, uint8_t vector);
 /* Passes one clock with these pin levels; node->output is what the pins carry after it. */
 void node_clock(struct node *node, uint8_t levels);
 
-/* Whether this node's next clock comes before the other's, or at the same time. Exact: the times are compared as fractions. */
+/* Whether this node's next clock comes before the other's, or at the same time. Exact: the times are compared as
+   fractions. */
 bool node_is_next(const struct node *node, const struct node *other);
 
 /* Time of the last clock, rounded down. */

@@ -18,7 +18,8 @@ enum {
 /* 8 data bits, no parity, 1 stop bit, both directions on, an interrupt when a frame has come and when all was sent. */
 void settings_serial(struct node *node, const struct log *log);
 
-/* Master, mode 0, high bit first, with MOSI, SCK and SS as outputs: SS as an input that is low would make the master a slave. */
+/* Master, mode 0, high bit first, with MOSI, SCK and SS as outputs: SS as an input that is low would make the master a
+   slave. */
 void settings_spi(struct node *node, const struct log *log);
 
 #endif

@@ -1,5 +1,6 @@
-/* A value change dump (IEEE 1364) of one-bit wires, in nanoseconds. GTKWave, PulseView and sigrok-cli open it. A pin that nobody drives is
-   dumped at the level of its pull-up or pull-down, not as z: sigrok takes z for 0, and a TxD of 0 is a break. */
+/* A value change dump (IEEE 1364) of one-bit wires, in nanoseconds. GTKWave, PulseView and sigrok-cli open it. A pin
+   that nobody drives is dumped at the level of its pull-up or pull-down, not as z: sigrok takes z for 0, and a TxD of 0
+   is a break. */
 #ifndef EXAMPLES_VCD_H
 #define EXAMPLES_VCD_H
 

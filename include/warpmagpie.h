@@ -182,10 +182,10 @@ uint8_t warpmagpie_requests(const uint8_t *record, size_t record_len, uint8_t *r
        A  vector  answer             a vector taken, and the number that it answered
        C  levels  clocks             1 to 4,294,967,295 clocks, each with this level byte, 0 to 31
 
-   Answers 0 with *line 0. Answers 9 if the text is not such a trace, which is looked at first, the whole of it: *line is
-   the first malformed line, from 1, and the record is as after reset. Answers 10 if a call is answered otherwise than
-   recorded: *line is the line of the first such call, and the record is as after that call. Answers 5, with *line 0,
-   if record_len is not 64. */
+   Answers 0 with *line 0. Answers 9 if the text is not such a trace, which is looked at first, the whole of it: *line
+   is the first malformed line, from 1, and the record is as after reset. Answers 10 if a call is answered otherwise
+   than recorded: *line is the line of the first such call, and the record is as after that call. Answers 5, with *line
+   0, if record_len is not 64. */
 uint8_t warpmagpie_replay(uint8_t *record, size_t record_len, const uint8_t *text, size_t text_len, size_t *line);
 
 /* The two calls below choose a baud setting. They take no record, and have no loop. clock_hz is 1 to 20,000,000, rate

@@ -3,9 +3,9 @@
 # statement's negation is proved of a closed list. Runs every refutations/NAME.refutation, or those named.
 #
 # A refutation has, after some words of its own: 'crate:' and 'edit:' (crates/CRATE/must-fail/EDIT.edit), where it is
-# of several wrong programs a line for each, which has a copy of its own; 'laws:', the files of laws that the copy keeps,
-# all others being left out, since the wrong program breaks them; 'without:', what else is left out; and after 'proof:'
-# a file of laws, proofs/Refutation.antt. The copy is then proved whole by rt: the edited functions meet their
+# of several wrong programs a line for each, which has a copy of its own; 'laws:', the files of laws that the copy
+# keeps, all others being left out, since the wrong program breaks them; 'without:', what else is left out; and after
+# 'proof:' a file of laws, proofs/Refutation.antt. The copy is then proved whole by rt: the edited functions meet their
 # contracts, and the negation holds.
 set -u -o pipefail
 cd "$(dirname "$0")/.."

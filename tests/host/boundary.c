@@ -1,8 +1,9 @@
 /* What the nine calls do at the C boundary: with every length of record, levels and outputs, every address and vector,
    any bytes, every length of a trace and every byte as U2X. Exits with 1 at the first difference.
 
-   All is done twice: between guard bytes, which this program looks at itself, and in memory of exactly the length that the call is told, so
-   that valgrind sees a byte too far. Usage: boundary [short]; short tries a part of the addresses and of the runs. */
+   All is done twice: between guard bytes, which this program looks at itself, and in memory of exactly the length that
+   the call is told, so that valgrind sees a byte too far. Usage: boundary [short]; short tries a part of the addresses
+   and of the runs. */
 #include <stdbool.h>
 #include <stdio.h>
 #include <stdlib.h>
@@ -397,7 +398,7 @@ static void bad_levels(const struct plan *plan)
     drop(&record);
 }
 
-/* The header asks for pointers that are not null even where the length is 0. Programs in C pass null there nevertheless, so it is tried. */
+/* Where a length is 0 the pointer may be null. */
 static void null_pointers(const struct plan *plan)
 {
     uint8_t good[WARPMAGPIE_RECORD_LEN];

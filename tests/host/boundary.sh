@@ -1,7 +1,8 @@
 #!/usr/bin/env bash
-# The C boundary of the archive: the header from C99 and C++11, then boundary.c with every length, address and vector. Memory that a call
-# has no right to is watched by valgrind where it is installed, else by the address sanitizer where cc can link it (it sees the C side
-# and what the archive writes into the guard bytes of boundary.c, not the archive's own reads).
+# The C boundary of the archive: the header from C99 and C++11, then boundary.c with every length, address and vector.
+# Memory that a call has no right to is watched by valgrind where it is installed, else by the address sanitizer where
+# cc can link it (it sees the C side and what the archive writes into the guard bytes of boundary.c, not the archive's
+# own reads).
 set -eu
 cd "$(dirname "$0")/../.."
 bash scripts/archive.sh

@@ -1,4 +1,5 @@
-/* M8 and M10 of document 01 through the archive, and each refusal once at the C boundary. Exits with 1 at the first difference. */
+/* M8 and M10 of document 01 through the archive, and each refusal once at the C boundary. Exits with 1 at the first
+   difference. */
 #include <stdio.h>
 #include <stdlib.h>
 #include <string.h>
@@ -40,7 +41,8 @@ static uint8_t clocks(uint8_t level, int count)
     return output;
 }
 
-/* M8: UBRR 0, 8 bits, no parity, 1 stop, one byte written: start bit on clock 1, UDRE back on clock 1, TXC on clock 161. */
+/* M8: UBRR 0, 8 bits, no parity, 1 stop, one byte written: start bit on clock 1, UDRE back on clock 1, TXC on clock
+   161. */
 static void m8(void)
 {
     done("reset", warpmagpie_reset(record, sizeof record));

@@ -1,6 +1,6 @@
 #!/usr/bin/env bash
-# The program replay, on files: what it prints for good, malformed and differing traces, for files that are not there, and
-# at 65,536 bytes and one more.
+# The program replay, on files: what it prints for good, malformed and differing traces, for files that are not there,
+# and at 65,536 bytes and one more.
 set -eu
 cd "$(dirname "$0")/../.."
 bash scripts/program.sh replay

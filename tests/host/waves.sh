@@ -1,13 +1,14 @@
 #!/usr/bin/env bash
-# Runs the demo, checks its waveform file and, where sigrok-cli is installed, decodes it: the bytes on the wires have to be those that the
-# demo says it sent.
+# Runs the demo, checks its waveform file and, where sigrok-cli is installed, decodes it: the bytes on the wires have to
+# be those that the demo says it sent.
 set -eu
 cd "$(dirname "$0")/../.."
 bash examples/build.sh
 vcd=target/demo.vcd sent=target/demo.sent
 target/rig --sent $vcd >$sent || { cat $sent; echo "waves: the demo did not see what it has to see"; exit 1; }
 
-# Every signal is declared once, in its scope, and has a level at time 0; times rise; only declared signals change, and to 0 or 1.
+# Every signal is declared once, in its scope, and has a level at time 0; times rise; only declared signals change, and
+# to 0 or 1.
 awk -v wanted="doorbell.TXD chime.RXD chime.REPLY_TXD chime.SCK chime.MOSI chime.MISO chime.SS" '
     function bad(why) { print "waves: " FILENAME ":" FNR ": " why; failed = 1; exit 1 }
     $1 == "$scope" { scope = $3 }

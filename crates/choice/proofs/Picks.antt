@@ -1,6 +1,7 @@
 -- What `search` is handed to close a return whose clause picks by tests: `picks`.
--- A goal `r ≡ pick t a b` follows from the test's value, which is a branch's fact, and `r ≡ a` or `r ≡ b`, which is what a callee
--- ensures, or `refl`. The lemmas that end in `-of` are for a test on what a call returned: `n` is the result, `n ≡ b` what it ensures.
+-- A goal `r ≡ pick t a b` follows from the test's value, which is a branch's fact, and `r ≡ a` or `r ≡ b`, which is
+-- what a callee ensures, or `refl`. The lemmas that end in `-of` are for a test on what a call returned: `n` is the
+-- result, `n ≡ b` what it ensures.
 use Prim.Native.Nat.{ℕ, _<_, _≤_}
 use mathlib.Core.Bool.{Bool, true, false, true≢false}
 use mathlib.Core.Path.{_≡_, refl, sym, ap, subst, _∙_}

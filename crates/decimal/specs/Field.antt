@@ -13,8 +13,8 @@ use Rattle.decimal.specs.declared.Field.the-variants.{Number, Malformed}
 abbrev pub withDigit : ℕ → ℕ → ℕ
 withDigit value b = 10 * value + (b - 48)
 
--- the bytes from the place `at` on, after digits that are worth `value`. A 0 is followed by `end` alone: any digit after
--- it would make it a leading zero
+-- the bytes from the place `at` on, after digits that are worth `value`. A 0 is followed by `end` alone: any digit
+-- after it would make it a leading zero
 unfoldable pub restOf : ℕ → ℕ → ℕ → ℕ → List ℕ → Field
 restOf limit end value at [] = Malformed
 restOf limit end value at (b ∷ rest) =

@@ -1,4 +1,5 @@
--- A level byte that is held is a run of as many equal level bytes; n clocks and then m are n + m; at rest only the baud counter moves.
+-- A level byte that is held is a run of as many equal level bytes; n clocks and then m are n + m; at rest only the baud
+-- counter moves.
 use Prim.Native.Nat.{ℕ, zero, suc, _+_}
 use mathlib.Core.Bool.{true}
 use mathlib.Core.Path.{_≡_, refl, ap, ap₂, _∙_}

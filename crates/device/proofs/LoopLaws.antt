@@ -112,7 +112,8 @@ none-left ls i h = rw (h, drop-length)
 pub all-taken : (ls : List ℕ) (i : ℕ) → i ≡ length ls → take i ls ++ [] ≡ ls
 all-taken ls i h = rw (h, append-nil, take-length)
 
--- the SPI's part of a run, at place i of the level bytes ls: s has come from s₀ so far, and os, from os₀, has its bits so far
+-- the SPI's part of a run, at place i of the level bytes ls: s has come from s₀ so far, and os, from os₀, has its bits
+-- so far
 pub record SpiPart (ls os₀ : List ℕ) (s₀ : Spi) (os : List ℕ) (s : Spi) (i : ℕ) : Type 0 where
   pub within : i ≤ length ls
   pub long : length os ≡ length ls

@@ -1,4 +1,5 @@
--- A means, no rule: a run unit by unit, as the code goes. That it comes to `ranOf` and `outputsOf` is in proofs/RunLaws.
+-- A means, no rule: a run unit by unit, as the code goes. That it comes to `ranOf` and `outputsOf` is in
+-- proofs/RunLaws.
 use Prim.Native.Nat.{ℕ, _+_, _%_}
 use mathlib.Core.List.{List, [], _∷_}
 use Rattle.usart.specs.Unit.{clockOf as serialClock, outputOf as serialOutput}

@@ -1,4 +1,5 @@
--- Writes, reads and vectors by their address or number (document 01, 'Numbers the rig sees': 'Order'; 'Receiver': vectors).
+-- Writes, reads and vectors by their address or number (document 01, 'Numbers the rig sees': 'Order'; 'Receiver':
+-- vectors).
 use Prim.Native.Nat.{ℕ}
 use lib.Dec.{eqb}
 use Rattle.choice.specs.Pick.{pick}

@@ -1,5 +1,5 @@
-// The peripheral as one device: USART0 and the SPI behind one set of register addresses, level byte, output byte, vectors and request bits. It
-// knows nothing of the record's bytes.
+// The peripheral as one device: USART0 and the SPI behind one set of register addresses, level byte, output byte,
+// vectors and request bits. It knows nothing of the record's bytes.
 mod address;
 mod hold;
 mod outcome;

@@ -45,7 +45,8 @@ impl Device {
         self.after(u, off_clocks(s, levels))
     }
 
-    // One clock is a run of one: so each large function of a unit has one caller, and the compiler puts it into the loop.
+    // One clock is a run of one: so each large function of a unit has one caller, and the compiler puts it into the
+    // loop.
     pub fn clock(self, level: u8) -> Clocked
         ensures { λ r. ⌜ r ≡ clockedOf self level ⌝ }
     {

@@ -164,8 +164,8 @@ bytes-first : (cs ds : List Call) → Bytes (cs ++ ds) → Bytes cs
 bytes-first [] ds p = tt
 bytes-first (c ∷ cs) ds p = (p .0, bytes-first cs ds (p .1))
 
--- .. and at every place inside: wherever the two stand after equal serial parts, with calls still to come, they agree so
--- far, and so do reports at that place
+-- .. and at every place inside: wherever the two stand after equal serial parts, with calls still to come, they agree
+-- so far, and so do reports at that place
 pub independent-inside : (d e : Device) (s t : List ℕ) (cs cs′ ds ds′ : List Call) → Alike d e s t (cs ++ cs′) (ds ++ ds′) → serialParts s cs ≡ serialParts t ds
     → Agree s t cs ds
 independent-inside d e s t cs cs′ ds ds′ a same =

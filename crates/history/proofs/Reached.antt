@@ -1,4 +1,5 @@
--- Every device reached from reset has a record: whatever calls follow a reset, their record is accepted, and its device is valid.
+-- Every device reached from reset has a record: whatever calls follow a reset, their record is accepted, and its device
+-- is valid.
 use Prim.Native.Nat.{ℕ}
 use mathlib.Core.List.{List}
 use mathlib.Core.Path.{_≡_, ap, _∙_}

@@ -1,6 +1,7 @@
 -- The theorems over histories are not empty: at each speed a closed history that meets every premise of demand 3, with
--- two frames at unequal crystals, and with refused calls, SPI traffic, reads, a write of UDR0, vectors and reports among
--- the runs. The same history is one of the sender's, and one that agrees with its serial side alone, which has no report.
+-- two frames at unequal crystals, and with refused calls, SPI traffic, reads, a write of UDR0, vectors and reports
+-- among the runs. The same history is one of the sender's, and one that agrees with its serial side alone, which has no
+-- report.
 use Prim.Native.Nat.{ℕ, zero, suc, _+_, _-_, _*_}
 use mathlib.Core.Bool.{Bool, true, false}
 use mathlib.Core.List.{List, [], _∷_}

@@ -34,8 +34,8 @@ pub data Call : Type 0 where
 abbrev pub report : Call
 report = pass (query requestsAnswer)
 
--- what a call does: the number that it answers, the record that it leaves, the level bytes of the clocks that it passed,
--- and the output bytes after them
+-- what a call does: the number that it answers, the record that it leaves, the level bytes of the clocks that it
+-- passed, and the output bytes after them
 pub record Effect : Type 0 where
   pub answer : ℕ
   pub after : List ℕ

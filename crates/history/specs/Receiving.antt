@@ -1,5 +1,5 @@
--- Demand 3 (document 01, 'The line of demand 3'): what is asked of the record, the calls and the line, and what comes of
--- them (`Delivered` of the serial unit's, said of these).
+-- Demand 3 (document 01, 'The line of demand 3'): what is asked of the record, the calls and the line, and what comes
+-- of them (`Delivered` of the serial unit's, said of these).
 use Prim.Native.Nat.{ℕ}
 use mathlib.Core.List.{List, [], _∷_}
 use mathlib.Core.Path.{_≡_}

@@ -16,8 +16,8 @@ use Rattle.record.specs.Codec.{decodeOf}
 use Rattle.record.specs.declared.codec.Decoded.the-variants.{Accepted}
 use Rattle.history.specs.Call.{Call, reset, write, read, vector, pass, effect, finalRecord, gathered, Bytes, usartOf}
 
--- the serial calls as the serial unit has them (a serial register written or read, vector 0, and the clocks passed, each
--- with its level of RxD), and the resets
+-- the serial calls as the serial unit has them (a serial register written or read, vector 0, and the clocks passed,
+-- each with its level of RxD), and the resets
 pub data Serial : Type 0 where
   event : Event → Serial
   resets : Serial
@@ -53,8 +53,9 @@ serialAnswers s cs = gathered serialAnswer s cs
 abbrev pub requestBits : List ℕ → ℕ
 requestBits s = requestsValue s % 8
 
--- two histories from one serial device, with the same serial calls and resets in order and the same clocks and RxD levels
--- between them, however split into runs; what else is in them, queries too, and whose SPI is in which state, is free
+-- two histories from one serial device, with the same serial calls and resets in order and the same clocks and RxD
+-- levels between them, however split into runs; what else is in them, queries too, and whose SPI is in which state, is
+-- free
 pub record Alike (d e : Device) (s t : List ℕ) (cs ds : List Call) : Type 0 where
   pub first : decodeOf s ≡ Accepted d
   pub second : decodeOf t ≡ Accepted e

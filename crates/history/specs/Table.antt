@@ -1,6 +1,6 @@
 -- The table of numbers, document 01's and what document 02 adds: for each number its condition, by itself, and for each
--- exported call its numbers in the order given there, of which the first whose condition holds is the answer, else 0. The
--- record is any bytes; the last two calls take none.
+-- exported call its numbers in the order given there, of which the first whose condition holds is the answer, else 0.
+-- The record is any bytes; the last two calls take none.
 use Prim.Native.Nat.{ℕ, _/_, _<_}
 use mathlib.Core.Bool.{Bool, true, false, not, _&&_, _||_}
 use mathlib.Core.List.{List, [], _∷_}
@@ -33,8 +33,8 @@ use Rattle.holding.specs.Replay.{replayAnswer}
 use Rattle.warpmagpie.specs.Baud.{planAnswer, checkAnswer}
 use Rattle.history.specs.Call.{deviceOf}
 
--- 5: record not 64 bytes, a field out of its range (also against the format), or an unused byte not zero. As a test it is that the record
--- is no device's; `Numbers` has it by itself
+-- 5: record not 64 bytes, a field out of its range (also against the format), or an unused byte not zero. As a test it
+-- is that the record is no device's; `Numbers` has it by itself
 abbrev pub isNoDevice : Decoded → Bool
 isNoDevice (Accepted d) = false
 isNoDevice Refused = true

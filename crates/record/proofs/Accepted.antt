@@ -1,4 +1,5 @@
--- Closed cases, by computing alone and before any law is used: a wrong program that changes a definition is refused here first.
+-- Closed cases, by computing alone and before any law is used: a wrong program that changes a definition is refused
+-- here first.
 use Prim.Native.Nat.{ℕ}
 use mathlib.Core.Bool.{Bool, true, false}
 use mathlib.Core.List.{List, [], _∷_, _++_, map}

@@ -1,5 +1,5 @@
--- A clock that only counts, in place: what is looked at says whether it does, and the bytes that are stored make the record of the device
--- after it. Assumes nothing.
+-- A clock that only counts, in place: what is looked at says whether it does, and the bytes that are stored make the
+-- record of the device after it. Assumes nothing.
 use Prim.Native.Nat.{ℕ, _+_, _-_, _<_, _≤_}
 use mathlib.Core.Bool.{Bool, true, false, not}
 use mathlib.Core.List.{List}

@@ -1,4 +1,5 @@
--- Bytes that hold several bits: each bit is had again from their sum, and a byte is the sum of its bits. Assumes nothing.
+-- Bytes that hold several bits: each bit is had again from their sum, and a byte is the sum of its bits. Assumes
+-- nothing.
 use Prim.Native.Nat.{ℕ, zero, suc, _+_, _*_, _/_, _%_, _<_, _≤_}
 use mathlib.Core.Bool.{Bool, true, false}
 use mathlib.Core.Path.{_≡_, refl, sym, ap, _∙_}

@@ -1,5 +1,5 @@
--- Devices and records, one for one: the record of a valid device is accepted as that device, what is accepted is the record of its device,
--- which is valid, and each byte of it is below its limit. Assumes nothing.
+-- Devices and records, one for one: the record of a valid device is accepted as that device, what is accepted is the
+-- record of its device, which is valid, and each byte of it is below its limit. Assumes nothing.
 use Prim.Native.Nat.{ℕ, zero, suc, _<_}
 use mathlib.Core.Bool.{Bool, true, false}
 use mathlib.Core.List.{List, [], _∷_, map}

@@ -1,5 +1,5 @@
--- The tests of `accepts`, part by part: each holds of what a valid part's bytes say, and bytes of which it holds say a valid part, whose
--- bytes they are. Assumes nothing.
+-- The tests of `accepts`, part by part: each holds of what a valid part's bytes say, and bytes of which it holds say a
+-- valid part, whose bytes they are. Assumes nothing.
 use Prim.Native.Nat.{ℕ, _+_, _-_, _^_, _<_, _≤_}
 use mathlib.Core.Bool.{Bool, true, false, not, _&&_}
 use mathlib.Core.Path.{_≡_, refl, sym}

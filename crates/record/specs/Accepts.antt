@@ -1,5 +1,5 @@
--- Which bytes are a record (docs/RECORD.md): what each byte is at most, by a table, and what is asked of the fields that depend on others.
--- Accepted are exactly the images of valid devices (proofs/Round.antt).
+-- Which bytes are a record (docs/RECORD.md): what each byte is at most, by a table, and what is asked of the fields
+-- that depend on others. Accepted are exactly the images of valid devices (proofs/Round.antt).
 use Prim.Native.Nat.{ℕ, _+_, _-_, _/_, _%_, _^_}
 use mathlib.Core.Bool.{Bool, true, false, not, _&&_}
 use mathlib.Core.List.{List, [], _∷_}

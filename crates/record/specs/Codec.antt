@@ -1,5 +1,5 @@
--- Which records are accepted, and the device of each (document 01, 'Numbers the rig sees', 5: 'record not 64 bytes, a field out of its
--- range (also against the format), or an unused byte not zero').
+-- Which records are accepted, and the device of each (document 01, 'Numbers the rig sees', 5: 'record not 64 bytes, a
+-- field out of its range (also against the format), or an unused byte not zero').
 use Prim.Native.Nat.{ℕ}
 use mathlib.Core.List.{List}
 use lib.Dec.{eqb}

@@ -1,4 +1,5 @@
--- The codes of what a device holds as one of a few cases: the size code UCSZ2:0 as in the registers, a frame's marks, and an SPI flag.
+-- The codes of what a device holds as one of a few cases: the size code UCSZ2:0 as in the registers, a frame's marks,
+-- and an SPI flag.
 use Prim.Native.Nat.{ℕ, _+_, _*_, _/_, _%_}
 use lib.Dec.{eqb}
 use Rattle.choice.specs.Bit.{isSet}

@@ -1,5 +1,5 @@
--- The bytes of a device (docs/RECORD.md). Settings stand as their registers, every other field has bytes of its own, and what is not in
--- use is 0.
+-- The bytes of a device (docs/RECORD.md). Settings stand as their registers, every other field has bytes of its own,
+-- and what is not in use is 0.
 use Prim.Native.Nat.{ℕ, _+_, _*_, _/_, _%_}
 use mathlib.Core.Bool.{Bool}
 use mathlib.Core.List.{List, [], _∷_}

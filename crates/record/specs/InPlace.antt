@@ -1,5 +1,5 @@
--- A means, no rule: a clock that only counts, by the few bytes that it changes. That it comes to the clock of the device that
--- they say is proved in proofs/InPlaceLaws.antt; which clocks these are is said of the device.
+-- A means, no rule: a clock that only counts, by the few bytes that it changes. That it comes to the clock of the
+-- device that they say is proved in proofs/InPlaceLaws.antt; which clocks these are is said of the device.
 use Prim.Native.Nat.{ℕ, _+_, _-_}
 use mathlib.Core.List.{List}
 use lib.ListN.{set}
@@ -27,7 +27,8 @@ waitedOver s = set (set s leftByte (low (wordAt s leftByte - 1))) (leftByte + 1)
 unfoldable pub advancedOver : List ℕ → List ℕ
 advancedOver s = pick (ticks (baudAt s)) (tickedOver s) (waitedOver s)
 
--- one clock: no record; it only counted, and this is its output; or something happens at it, and this is the device, which has not moved
+-- one clock: no record; it only counted, and this is its output; or something happens at it, and this is the device,
+-- which has not moved
 unfoldable pub steppedOf : List ℕ → ℕ → Stepped
 steppedOf s level = pick (isRecord s) (pick (isCounting (deviceAt s) level) (Counted (outputOf (deviceAt s) level)) (Due (deviceAt s))) Refused
 

@@ -1,4 +1,5 @@
--- What the bytes of a record say, unchecked, field by field. A byte that says nothing of its kind is refused (specs/Accepts.antt).
+-- What the bytes of a record say, unchecked, field by field. A byte that says nothing of its kind is refused
+-- (specs/Accepts.antt).
 use Prim.Native.Nat.{ℕ, _+_, _/_, _%_}
 use mathlib.Core.Bool.{Bool}
 use mathlib.Core.List.{List}

@@ -1,5 +1,6 @@
--- Number 5 by itself (document 01, 'Numbers the rig sees': 'record not 64 bytes, a field out of its range (also against the format), or an
--- unused byte not zero'), field by field as docs/RECORD.md has it. That `decodeOf` refuses exactly this is `five` in proofs/Five.antt.
+-- Number 5 by itself (document 01, 'Numbers the rig sees': 'record not 64 bytes, a field out of its range (also against
+-- the format), or an unused byte not zero'), field by field as docs/RECORD.md has it. That `decodeOf` refuses exactly
+-- this is `five` in proofs/Five.antt.
 use Prim.Native.Nat.{ℕ, _/_, _%_, _<_, _≤_}
 use mathlib.Core.Bool.{Bool, true, false}
 use mathlib.Core.List.{List}
@@ -37,7 +38,8 @@ pub record OthersZero (s : List ℕ) : Type 0 where
 abbrev pub isUnused : ℕ → Bool
 isUnused i = eqb (getD most i 0) 0
 
--- each field: at most its limit, and the device that they say valid, which is its range against the format and the other settings
+-- each field: at most its limit, and the device that they say valid, which is its range against the format and the
+-- other settings
 pub record FieldsInRange (s : List ℕ) : Type 0 where
   pub limits : (i : ℕ) → i < recordLength → isUnused i ≡ false → byteAt s i ≤ getD most i 0
   pub layout : byteAt s layoutByte ≡ layoutNumber

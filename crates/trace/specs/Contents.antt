@@ -1,5 +1,5 @@
--- What a text holds (document 02, M-100): the items of its lines up to the first malformed one, and whether there is such
--- a line. That this is the inverse of `textOf` is stated both ways as `Reads` in specs/Meaning.antt.
+-- What a text holds (document 02, M-100): the items of its lines up to the first malformed one, and whether there is
+-- such a line. That this is the inverse of `textOf` is stated both ways as `Reads` in specs/Meaning.antt.
 use Prim.Native.Nat.{ℕ, zero, suc, _+_, _-_}
 use mathlib.Core.Bool.{Bool, true, false}
 use mathlib.Core.List.{List, [], _∷_}

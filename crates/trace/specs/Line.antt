@@ -1,5 +1,5 @@
--- The line at a place of a text: what it holds and the next place, malformed, or the text's end. That it is found exactly
--- where the line of an item in range stands is proved in `proofs/LineMeaning.antt` and `proofs/LineFound.antt`.
+-- The line at a place of a text: what it holds and the next place, malformed, or the text's end. That it is found
+-- exactly where the line of an item in range stands is proved in `proofs/LineMeaning.antt` and `proofs/LineFound.antt`.
 use Prim.Native.Nat.{ℕ, _+_}
 use mathlib.Core.List.{List}
 use lib.Dec.{ltb, eqb}

@@ -34,8 +34,8 @@ pub data MalformedAt (text : List ℕ) : ℕ → Type 0 where
   later : (is : List Item) (rest : List ℕ) → AllInRange is → text ≡ textOf is ++ rest → 0 < length rest → NoLine rest
       → MalformedAt text (2 + length is)
 
--- how many LF there are. The text of items has one for each and one more (`feeds-text` in proofs/LineCount.antt), so the
--- line above has the number that an editor gives it: one more than the LF before it
+-- how many LF there are. The text of items has one for each and one more (`feeds-text` in proofs/LineCount.antt), so
+-- the line above has the number that an editor gives it: one more than the LF before it
 unfoldable pub feedsIn : List ℕ → ℕ
 feedsIn [] = 0
 feedsIn (b ∷ s) = pick (eqb b 10) (1 + feedsIn s) (feedsIn s)

@@ -1,6 +1,6 @@
 // A reader that carries a text and its place in it (document 01, 'Forms'). The checker covers no function over a struct
-// that holds a reference: these are thin, over `line_at`, and proved by hand. `read_line` has plain arguments, and serves
-// every other caller.
+// that holds a reference: these are thin, over `line_at`, and proved by hand. `read_line` has plain arguments, and
+// serves every other caller.
 use crate::line::Line;
 use crate::line::line_at;
 ghost use mathlib.Core.Path.{_≡_};

@@ -106,9 +106,9 @@ Drives w j (o ∷ os) = (o ≡ digit (w j) + 16) × Drives w (suc j) os
 abbrev pub dataIn : Sent → ℕ
 dataIn s = s .«data»
 
--- TxD, in the outputs, is a line with Q = 1 and P = S·(UBRR + 1), of exactly the frames that the buffer held at first or
--- took, in order, each begun at its tick. The list's end may cut the last one begun, or leave in the buffer one whose
--- tick has not come, and no other
+-- TxD, in the outputs, is a line with Q = 1 and P = S·(UBRR + 1), of exactly the frames that the buffer held at first
+-- or took, in order, each begun at its tick. The list's end may cut the last one begun, or leave in the buffer one
+-- whose tick has not come, and no other
 pub record Sends (u : Usart) (taken : List Taken) (outputs : List ℕ) (left : Buffer) : Type 0 where
   pub fits : Fits (u .format) (framesOf u taken)
   pub spaced : Spaced (wordBits (u .format)) (bitClocks u) 1 (framesOf u taken)

@@ -1,4 +1,5 @@
-//! How a comparison is called and ends: NAME [--seed N] [--scale K]. Its words, and exit code 1, where something differs.
+//! How a comparison is called and ends: NAME [--seed N] [--scale K]. Its words, and exit code 1, where something
+//! differs.
 
 /// Seed and scale of the program's words.
 fn read(name: &str, seed: u64) -> Result<(u64, u64), String> {
