@@ -1,3 +1,4 @@
 pub mod Picks
 pub mod Digits
 pub mod TimesLaws
+pub mod Settling

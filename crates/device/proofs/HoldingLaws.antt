@@ -1,22 +1,25 @@
 -- A level byte that is held is a run of as many equal level bytes; n clocks and then m are n + m; at rest only the baud
--- counter moves.
-use Prim.Native.Nat.{ℕ, zero, suc, _+_}
+-- counter moves, and every valid device comes there.
+use Prim.Native.Nat.{ℕ, zero, suc, _+_, _≤_}
 use mathlib.Core.Bool.{true}
 use mathlib.Core.Path.{_≡_, refl, ap, ap₂, _∙_}
 use native.Mathlib.Omega.{arith}
 use borrow.Author.Tests.{ne-eqb}
-use lib.ListN.{getD, replicate}
+use lib.ListN.{replicate}
 use Rattle.choice.specs.Times.{times}
 use Rattle.choice.proofs.Picks.{both}
 use Rattle.choice.proofs.TimesLaws.{times-add}
 use Rattle.usart.specs.Holding.{heldOf as serialHeld, passedBaud, isAtRest as serialRests}
 use Rattle.usart.specs.Write.{withBaud}
 use Rattle.usart.proofs.HoldingLaws.{rest-held as serial-rest, rest-output as serial-rest-output, rest-requests as serial-rest-requests}
+use Rattle.usart.proofs.RestLaws.{comes-to-rest as serial-settles, resting-range}
 use Rattle.spi.specs.Holding.{heldOf as spiHeld, isAtRest as spiRests}
 use Rattle.spi.proofs.HoldingLaws.{rest-held as spi-rest, rest-output as spi-rest-output, rest-requests as spi-rest-requests}
+use Rattle.spi.proofs.RestLaws.{comes-to-rest as spi-settles}
 use Rattle.device.specs.Unit.{afterOf, withUsart, rxdIn, levelsIn, clockOf, outputOf, requestsOf}
 use Rattle.device.specs.Run.{ranOf, outputsOf}
-use Rattle.device.specs.Holding.{clockAt, heldOf, heldOutput, isAtRest}
+use Rattle.device.specs.Valid.{Valid}
+use Rattle.device.specs.Holding.{clockAt, heldOf, lastOf, heldOutput, isAtRest, clocksToRest}
 use Rattle.device.specs.declared.unit.Device.{Device}
 
 -- the two units by themselves
@@ -32,14 +35,15 @@ held-ran zero d l = refl
 held-ran (suc n) d l = held-ran n (clockOf d l) l
 
 -- and its last output byte
-last-shown : (n : ℕ) (d : Device) (l : ℕ) → outputOf (heldOf d l (suc n)) l ≡ getD (outputsOf d (replicate (suc n) l)) n 0
-unfolding times outputsOf
-last-shown zero d l = refl
-last-shown (suc n) d l = last-shown n (clockOf d l) l
+last-shown : (n : ℕ) (d : Device) (l o : ℕ) → outputOf (heldOf d l (suc n)) l ≡ lastOf o (outputsOf d (replicate (suc n) l))
+unfolding times outputsOf lastOf
+last-shown zero d l o = refl
+last-shown (suc n) d l o = last-shown n (clockOf d l) l (outputOf (clockOf d l) l)
 
-pub held-last : (n : ℕ) (d : Device) (l : ℕ) → heldOutput d l (suc n) ≡ getD (outputsOf d (replicate (suc n) l)) n 0
-unfolding heldOutput
-held-last n d l = rw (ne-eqb (suc n) 0 (λ q. omega arith)) (last-shown n d l)
+pub held-last : (n : ℕ) (d : Device) (l : ℕ) → heldOutput d l n ≡ lastOf 0 (outputsOf d (replicate n l))
+unfolding heldOutput outputsOf lastOf
+held-last zero d l = refl
+held-last (suc n) d l = rw (ne-eqb (suc n) 0 (λ q. omega arith)) (last-shown n d l 0)
 
 -- n clocks, then m
 pub held-add : (d : Device) (l n m : ℕ) → heldOf d l (n + m) ≡ heldOf (heldOf d l n) l m
@@ -72,3 +76,11 @@ rest-requests d l n h =
     let b = both (serialRests (d .usart) (rxdIn l)) (spiRests (d .spi) (levelsIn l)) h in
     ap requestsOf (held-units n d l)
     ∙ ap₂ (_+_) (serial-rest-requests (d .usart) (rxdIn l) n (b .0)) (spi-rest-requests (d .spi) (levelsIn l) n (b .1))
+
+-- two of the longest frames at UBRR 4095; an SPI needs far less
+pub comes-to-rest : (d : Device) (l n : ℕ) → Valid d → clocksToRest ≤ n → isAtRest (heldOf d l n) l ≡ true
+unfolding isAtRest
+comes-to-rest d l n v h =
+    let from = resting-range (d .usart .baud) (v .usart .baud) in
+    ap (λ (e : Device). isAtRest e l) (held-units n d l)
+    ∙ rw (serial-settles (d .usart) (rxdIn l) n (v .usart) (omega (arith, from, h))) (spi-settles (d .spi) (levelsIn l) n (v .spi) (omega (arith, h)))

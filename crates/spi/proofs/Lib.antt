@@ -16,3 +16,4 @@ pub mod Witness
 pub mod OutputLaws
 pub mod RefusalLaws
 pub mod HoldingLaws
+pub mod RestLaws

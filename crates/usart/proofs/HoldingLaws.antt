@@ -133,7 +133,7 @@ passed-many step x quiet {n} {k} q z e =
     let b = least-le k quiet n (omega (arith, q)) in record { some = omega (arith, z); few = b .1; steps = e (b .0) }
 
 -- a tick leaves a part at rest as it is
-sender-rests : (f : Format) (s : Sender) → senderRests s ≡ true → senderOf f s ≡ s
+pub sender-rests : (f : Format) (s : Sender) → senderRests s ≡ true → senderOf f s ≡ s
 unfolding senderRests
 sender-rests f s h = by (s .buffer) (s .shifter) (s .txc) h
   where
@@ -151,7 +151,7 @@ sampler-rests f (Idle true) false h = clash h refl
 sampler-rests f (Idle false) true h = clash h refl
 sampler-rests f (Receiving r) l h = clash h refl
 
-receiver-rests : (rxen : Bool) (f : Format) (r : Receiver) (l : Bool) → receiverRests rxen r l ≡ true → listenedOf rxen f r l ≡ r
+pub receiver-rests : (rxen : Bool) (f : Format) (r : Receiver) (l : Bool) → receiverRests rxen r l ≡ true → listenedOf rxen f r l ≡ r
 unfolding receiverRests listenedOf
 receiver-rests true f r l h =
     let next : Sampled → Receiver = λ o. record { sampler = o .sampler; queue = putOf f (r .queue) (o .outcome) } in

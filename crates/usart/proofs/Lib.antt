@@ -25,3 +25,4 @@ pub mod SettingsLaws
 pub mod RefusalLaws
 pub mod CountingLaws
 pub mod HoldingLaws
+pub mod RestLaws

@@ -78,7 +78,7 @@ module _ (f : Format) where
       (λ g. record { buffer = vb; shifter = record { word = vt .word; bit = omega (arith, ltb-true (t .bit) (lastBit f) g); sample = omega (arith, samples-range f) } })
       (λ g. valid-moved (s .buffer) (s .txc) true))
 
-  valid-sender : (s : Sender) → ValidSender f s → ValidSender f (senderOf f s)
+  pub valid-sender : (s : Sender) → ValidSender f s → ValidSender f (senderOf f s)
   valid-sender s v = by (s .shifter) (v .shifter)
     where
       by : (x : ShiftRegister) → ValidShifter f x → ValidSender f (shiftedOn f s x)
@@ -99,7 +99,7 @@ module _ (f : Format) where
   valid-put q Nothing v = v
   valid-put q (Complete word stop) v = valid-stored (q .places) (q .lost) (frameOf f word stop) v (data-lt word)
 
-  valid-listened : (rxen : Bool) (r : Receiver) (rxd : Bool) → ValidReceiver f r → ValidReceiver f (listenedOf rxen f r rxd)
+  pub valid-listened : (rxen : Bool) (r : Receiver) (rxd : Bool) → ValidReceiver f r → ValidReceiver f (listenedOf rxen f r rxd)
   unfolding listenedOf
   valid-listened rxen r rxd v =
       pick-ind (ValidReceiver f) rxen _ _

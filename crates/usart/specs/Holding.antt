@@ -1,6 +1,6 @@
 -- One level of RxD held for many clocks: `heldOf`, as many single ones. All else here is a means, no rule: the parts of
 -- the unit after many clocks or ticks, and the unit at rest, which they leave as it is but for the baud counter.
-use Prim.Native.Nat.{ℕ, _≤_}
+use Prim.Native.Nat.{ℕ, _+_, _*_, _≤_}
 use mathlib.Core.Bool.{Bool, true, false, not}
 use mathlib.Core.Path.{_≡_}
 use Rattle.choice.specs.Pick.{pick}
@@ -53,6 +53,10 @@ receiverRests rxen r rxd = pick rxen (samplerRests (r .sampler) rxd) true
 
 unfoldable pub isAtRest : Usart → Bool → Bool
 isAtRest u rxd = pick (senderRests (u .sender)) (receiverRests (u .control .rxen) (u .receiver) rxd) false
+
+-- the clock of tick 416, with which a unit is at rest at the latest: two frames of 13 bits of 16 ticks each
+abbrev pub restingFrom : Baud → ℕ
+restingFrom b = b .left .0 + 415 * (b .ubrr + 1) + 1
 
 -- k of n steps have been taken from x, at least one, and lead to y
 pub record PassedOn {A : Type 0} (step : A → A) (x : A) (n k : ℕ) (y : A) : Type 0 where
