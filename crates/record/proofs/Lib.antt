@@ -14,3 +14,4 @@ pub mod StepLaws
 pub mod Five
 pub mod Round
 pub mod EachRecord
+pub mod KeptLaws

@@ -8,3 +8,4 @@ pub mod Codec
 pub mod Refusing
 pub mod InPlace
 pub mod Report
+pub mod Kept

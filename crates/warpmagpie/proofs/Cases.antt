@@ -15,7 +15,6 @@ use Rattle.answer.specs.declared.Refusal.the-variants.{Record}
 use Rattle.device.specs.declared.outcome.Written.{Written}
 use Rattle.device.specs.declared.outcome.Written.the-variants.{Done, Refused}
 use Rattle.device.specs.declared.outcome.Reading.{Reading}
-use Rattle.device.specs.declared.outcome.Reading.the-variants.{Done as Value, Refused as NoValue}
 use Rattle.device.specs.declared.unit.Device.{Device}
 use Rattle.device.specs.declared.unit.Clocked.{Clocked}
 use Rattle.record.specs.Layout.{recordLength}
@@ -23,6 +22,7 @@ use Rattle.record.specs.Lift.{deviceAt}
 use Rattle.record.specs.Codec.{decodeOf, recordOf, storedOver}
 use Rattle.record.specs.declared.codec.Decoded.{Decoded}
 use Rattle.record.specs.declared.codec.Decoded.the-variants.{Accepted, Refused as NoDevice}
+use Rattle.record.specs.Kept.{kept, keptByRead, putBack, putBackRead}
 use Rattle.record.specs.InPlace.{steppedOf, steppedOver}
 use Rattle.record.specs.Report.{reportOf}
 use Rattle.record.specs.declared.in_place.Stepped.{Stepped}
@@ -30,18 +30,9 @@ use Rattle.record.specs.declared.in_place.Stepped.the-variants.{Refused as Unco
 use Rattle.record.specs.declared.report.Reported.{Reported}
 use Rattle.record.specs.declared.report.Reported.the-variants.{Refused as NoReport, Bits}
 use Rattle.record.proofs.Round.{decode-length, stored}
+use Rattle.record.proofs.KeptLaws.{put-back, put-back-read}
 use Rattle.record.proofs.StepLaws.{counted-from, due-from, refused-from, bits-from, unreported-from}
-use Rattle.warpmagpie.specs.Calls.{kept, resetOn, resetAnswer, recordAfterReset, writeOn, writeAnswer, recordAfterWrite, readOn, keptByRead, readAnswer, readValue, recordAfterRead, vectorOn, vectorAnswer, recordAfterVector, runOn, outputsOn, runAnswer, recordAfterRun, outputsAfterRun, requestsAnswerOn, requestsValueOn, requestsAnswer, requestsValue}
-use Rattle.warpmagpie.specs.PutBack.{putBack, putBackRead}
-
--- on a slice as long as a record, what is put back is what is kept
-pub put-back : (s : List ℕ) (w : Written) → length s ≡ recordLength → putBack w s ≡ kept s w
-put-back s (Done d) h = stored d s h
-put-back s (Refused r) h = refl
-
-pub put-back-read : (s : List ℕ) (g : Reading) → length s ≡ recordLength → putBackRead g s ≡ keptByRead s g
-put-back-read s (Value v d) h = stored d s h
-put-back-read s (NoValue r) h = refl
+use Rattle.warpmagpie.specs.Calls.{resetOn, resetAnswer, recordAfterReset, writeOn, writeAnswer, recordAfterWrite, readOn, readAnswer, readValue, recordAfterRead, vectorOn, vectorAnswer, recordAfterVector, runOn, outputsOn, runAnswer, recordAfterRun, outputsAfterRun, requestsAnswerOn, requestsValueOn, requestsAnswer, requestsValue}
 
 -- what a run answers and leaves
 abbrev pub RunIs : List ℕ → List ℕ → List ℕ → ℕ → List ℕ → List ℕ → Type 0

@@ -13,16 +13,12 @@ use Rattle.answer.specs.declared.Refusal.the-variants.{Record}
 use Rattle.device.specs.declared.outcome.Written.{Written}
 use Rattle.device.specs.declared.outcome.Written.the-variants.{Done, Refused}
 use Rattle.device.specs.declared.outcome.Reading.{Reading}
-use Rattle.device.specs.declared.outcome.Reading.the-variants.{Done as Value, Refused as NoValue}
+use Rattle.device.specs.declared.outcome.Reading.the-variants.{Refused as NoValue}
 use Rattle.record.specs.Layout.{recordLength}
-use Rattle.record.specs.Codec.{decodeOf, recordOf}
+use Rattle.record.specs.Codec.{decodeOf}
+use Rattle.record.specs.Kept.{kept, keptByRead}
 use Rattle.record.specs.declared.codec.Decoded.{Decoded}
 use Rattle.record.specs.declared.codec.Decoded.the-variants.{Accepted, Refused as NoDevice}
-
--- every refusal leaves the record untouched
-abbrev pub kept : List ℕ → Written → List ℕ
-kept s (Done d) = recordOf d
-kept s (Refused r) = s
 
 -- reset ignores the old bytes and refuses only a wrong length
 unfoldable pub resetOn : List ℕ → Written
@@ -49,10 +45,6 @@ recordAfterWrite s a v = kept s (writeOn (decodeOf s) a v)
 unfoldable pub readOn : Decoded → ℕ → Reading
 readOn (Accepted d) a = readOf d a
 readOn NoDevice a = NoValue Record
-
-abbrev pub keptByRead : List ℕ → Reading → List ℕ
-keptByRead s (Value v d) = recordOf d
-keptByRead s (NoValue r) = s
 
 abbrev pub readAnswer : List ℕ → ℕ → ℕ
 readAnswer s a = readAnswerOf (readOn (decodeOf s) a)

@@ -1,7 +1,5 @@
 use answer::Refusal;
 use device::Device;
-use device::Reading;
-use device::Written;
 use record::Decoded;
 use record::Reported;
 use record::Stepped;
@@ -11,48 +9,13 @@ ghost use Prim.Native.Nat.{_<_};
 ghost use lib.ListN.{length};
 ghost use Rattle.answer.specs.Number.{numberOf};
 ghost use Rattle.answer.specs.declared.Refusal.the-variants.{Record};
-ghost use Rattle.device.specs.Outcome.{answerOf, readAnswerOf, valueOf};
 ghost use Rattle.warpmagpie.specs.Calls.{resetAnswer, recordAfterReset, writeAnswer, recordAfterWrite, readAnswer, readValue, recordAfterRead, vectorAnswer, recordAfterVector, runAnswer, recordAfterRun, outputsAfterRun, requestsAnswer, requestsValue};
-ghost use Rattle.warpmagpie.specs.PutBack.{putBack, putBackRead};
 
 fn no_record() -> u8
     ensures { λ r. ⌜ r ≡ numberOf Record ⌝ }
 {
     let r = Refusal::Record;
     r.number()
-}
-
-// Puts back what a write, a vector or a run came to; a refusal leaves the record as it is.
-fn settle(w: Written, image: &mut [u8]) -> u8
-    ensures { λ r. ⌜ r ≡ answerOf w ⌝ }
-    ensures { λ _. ⌜ now (image .exit) ≡ putBack w (now (image .entry)) ⌝ }
-{
-    match w {
-        Written::Done(d) => {
-            record::store(d, image);
-            0
-        }
-        Written::Refused(r) => r.number(),
-    }
-}
-
-// Puts back what a read came to.
-fn settle_read(g: Reading, image: &mut [u8], value: &mut u8) -> u8
-    ensures { λ r. ⌜ r ≡ readAnswerOf g ⌝ }
-    ensures { λ _. ⌜ now (value .exit) ≡ valueOf g ⌝ }
-    ensures { λ _. ⌜ now (image .exit) ≡ putBackRead g (now (image .entry)) ⌝ }
-{
-    match g {
-        Reading::Done(v, d) => {
-            record::store(d, image);
-            *value = v;
-            0
-        }
-        Reading::Refused(r) => {
-            *value = 0;
-            r.number()
-        }
-    }
 }
 
 // Resets the device: whatever bytes the record had, it is then the record of a device after reset.
@@ -75,7 +38,7 @@ pub extern "C" fn warpmagpie_write(image: &mut [u8], address: u16, value: u8) ->
 {
     let got = record::decode(image);
     match got {
-        Decoded::Accepted(d) => settle(d.write(address, value), image),
+        Decoded::Accepted(d) => record::settle(d.write(address, value), image),
         Decoded::Refused => no_record(),
     }
 }
@@ -88,7 +51,7 @@ pub extern "C" fn warpmagpie_read(image: &mut [u8], address: u16, value: &mut u8
 {
     let got = record::decode(image);
     match got {
-        Decoded::Accepted(d) => settle_read(d.read(address), image, value),
+        Decoded::Accepted(d) => record::settle_read(d.read(address), image, value),
         Decoded::Refused => {
             *value = 0;
             no_record()
@@ -103,7 +66,7 @@ pub extern "C" fn warpmagpie_take_vector(image: &mut [u8], vector: u8) -> u8
 {
     let got = record::decode(image);
     match got {
-        Decoded::Accepted(d) => settle(d.take_vector(vector), image),
+        Decoded::Accepted(d) => record::settle(d.take_vector(vector), image),
         Decoded::Refused => no_record(),
     }
 }
@@ -116,7 +79,7 @@ fn many_clocks(image: &mut [u8], levels: &[u8], outputs: &mut [u8]) -> u8
 {
     let got = record::decode(image);
     match got {
-        Decoded::Accepted(d) => settle(d.run(levels, outputs), image),
+        Decoded::Accepted(d) => record::settle(d.run(levels, outputs), image),
         Decoded::Refused => no_record(),
     }
 }

@@ -1,7 +1,7 @@
 use mathlib.Core.Path.{refl}
 use borrow.Author.Needs.{needs}
-use Rattle.warpmagpie.proofs.calls.settle.Statement.{statement}
-use Rattle.warpmagpie.proofs.calls.settle.Tie as tie
+use Rattle.record.proofs.put_back.settle.Statement.{statement}
+use Rattle.record.proofs.put_back.settle.Tie as tie
 
 returns : tie.Need-returns
 returns c = rw (c .before .before .before .before .before .w .given .1) (refl, c .before .before .store .ensures)
