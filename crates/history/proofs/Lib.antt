@@ -11,3 +11,4 @@ pub mod Witness
 pub mod Reached
 pub mod TableLaws
 pub mod Replaying
+pub mod Holding

@@ -13,7 +13,8 @@ use Rattle.record.specs.Layout.{recordLength}
 use Rattle.record.specs.Codec.{decodeOf}
 use Rattle.record.specs.declared.codec.Decoded.the-variants.{Accepted}
 use Rattle.record.proofs.Round.{decode-record, decode-valid}
-use Rattle.warpmagpie.specs.Calls.{kept, recordAfterReset}
+use Rattle.record.specs.Kept.{kept}
+use Rattle.warpmagpie.specs.Calls.{recordAfterReset}
 use Rattle.history.specs.Call.{Call, finalRecord, Bytes}
 use Rattle.history.proofs.StepLaws.{reset-done, induct}
 

@@ -3,12 +3,13 @@ use Prim.Native.Nat.{ℕ}
 use mathlib.Core.Bool.{Bool, true, false}
 use mathlib.Core.List.{List, [], _∷_}
 use mathlib.Core.Path.{_≡_, refl, sym, ap, subst, _∙_}
-use lib.Dec.{eqb}
-use lib.ListN.{length}
+use lib.Dec.{eqb, ltb}
+use lib.ListN.{length, replicate}
 use borrow.Author.Tests.{eq-eqb}
 use Rattle.choice.specs.Pick.{pick}
 use Rattle.answer.specs.declared.Refusal.the-variants.{Record, Length, Level}
-use Rattle.device.specs.Outcome.{answerOf, settled, readSettled}
+use Rattle.device.specs.Outcome.{answerOf, readAnswerOf, settled, readSettled}
+use Rattle.device.specs.Holding.{lastOf}
 use Rattle.device.specs.Unit.{resetDevice}
 use Rattle.device.specs.Register.{writeOf, readOf, vectorOf}
 use Rattle.device.specs.Run.{ranOf, outputsOf, areLevels, shown}
@@ -20,12 +21,14 @@ use Rattle.device.specs.declared.outcome.Reading.the-variants.{Done as Value, R
 use Rattle.device.specs.declared.unit.Device.{Device}
 use Rattle.device.proofs.ValidLaws.{valid-reset, valid-write, valid-read, valid-vector, valid-run}
 use Rattle.record.specs.Layout.{recordLength}
+use Rattle.record.specs.Kept.{kept, keptByRead}
 use Rattle.record.specs.Codec.{recordOf, decodeOf}
 use Rattle.record.specs.declared.codec.Decoded.{Decoded}
 use Rattle.record.specs.declared.codec.Decoded.the-variants.{Accepted}
 use Rattle.record.proofs.Round.{decode-record, decode-valid, decode-length}
-use Rattle.warpmagpie.specs.Calls.{kept, keptByRead, resetOn, writeOn, readOn, vectorOn, runOn, outputsOn}
-use Rattle.history.specs.Call.{Passing, run, query, Call, reset, write, read, vector, pass, Effect, noClocks, passed, effect, recordAfter, ByteCall, Bytes}
+use Rattle.warpmagpie.specs.Calls.{resetOn, writeOn, readOn, vectorOn, runOn, outputsOn}
+use Rattle.holding.specs.Hold.{holdIn, holdOn}
+use Rattle.history.specs.Call.{Passing, run, hold, query, Call, reset, write, read, vector, pass, Effect, noClocks, passed, effect, recordAfter, ByteCall, Bytes}
 
 -- a call that comes to w leaves the record of the device that w leaves
 kept-is : (s : List ℕ) (d : Device) (w : Written) → decodeOf s ≡ Accepted d → Valid (settled d w) → decodeOf (kept s w) ≡ Accepted (settled d w)
@@ -87,11 +90,21 @@ module _ (s : List ℕ) (d : Device) (h : decodeOf s ≡ Accepted d) where
   ran ls os true false w e = rw e (none-passed 7)
   ran ls os false low w e = rw e (none-passed 6)
 
+  -- a hold, by the test of its level
+  held : (ls : List ℕ) (o : ℕ) (low : Bool) (g : Reading) → g ≡ pick low (Value o (ranOf d ls)) (NoValue Level)
+      → Passes d (passed (readAnswerOf g) (keptByRead s g) ls (outputsOf d ls))
+  held ls o true g e = rw e (done-passed ls)
+  held ls o false g e = rw e (none-passed 7)
+
   pub passes : (p : Passing) → Passes d (effect s (pass p))
-  unfolding runOn outputsOn
+  unfolding runOn outputsOn holdOn holdIn
   passes (run ls os) =
       subst (λ (x : Decoded). Passes d (passed (answerOf (runOn x ls os)) (kept s (runOn x ls os)) ls (shown os (outputsOn x ls) (runOn x ls os)))) (sym h)
       (ran ls os (eqb (length os) (length ls)) (areLevels ls) (runOn (Accepted d) ls os) refl)
+  passes (hold l n) =
+      let ls : List ℕ = replicate n l in
+      subst (λ (x : Decoded). Passes d (passed (readAnswerOf (holdOn x l n)) (keptByRead s (holdOn x l n)) ls (outputsOn x ls))) (sym h)
+      (held ls (lastOf 0 (outputsOf d ls)) (ltb l 32) (holdOn (Accepted d) l n) refl)
   passes (query q) = none-passed (q s)
 
   -- every call leaves a record of the next device

@@ -46,17 +46,19 @@ use Rattle.device.specs.declared.outcome.Written.the-variants.{Done, Refused}
 use Rattle.device.specs.declared.unit.Device.{Device}
 use Rattle.device.proofs.RegisterLaws.{answer-serial, answer-spi}
 use Rattle.record.specs.Layout.{recordLength}
+use Rattle.record.specs.Kept.{kept, keptByRead}
 use Rattle.record.specs.Codec.{decodeOf}
 use Rattle.record.specs.declared.codec.Decoded.{Decoded}
 use Rattle.record.specs.declared.codec.Decoded.the-variants.{Accepted, Refused as NoDevice}
 use Rattle.record.specs.Refusing.{NoRecord}
 use Rattle.record.proofs.Five.{five}
 use Rattle.record.proofs.Round.{record-decode}
-use Rattle.warpmagpie.specs.Calls.{kept, keptByRead, resetOn, writeOn, readOn, readAnswer, readValue, vectorOn, runOn, outputsOn, runAnswer, recordAfterRun, outputsAfterRun, requestsAnswerOn, requestsAnswer, requestsValueOn, requestsValue}
+use Rattle.warpmagpie.specs.Calls.{resetOn, writeOn, readOn, readAnswer, readValue, vectorOn, runOn, outputsOn, runAnswer, recordAfterRun, outputsAfterRun, requestsAnswerOn, requestsAnswer, requestsValueOn, requestsValue}
+use Rattle.holding.specs.Hold.{holdIn, holdOn, holdAnswer, holdOutput}
 use Rattle.holding.specs.Replay.{replayAnswer}
 use Rattle.warpmagpie.specs.Baud.{planAnswer, planUbrr, planTenths, checkAnswer, checkAccepted}
-use Rattle.history.specs.Call.{run, query, Call, reset, write, read, vector, pass, effect, recordAfter, deviceIn}
-use Rattle.history.specs.Table.{isNoDevice, isNoRecord, isWrongLength, isNoPlace, isNowhere, isNoVector, reservedAt, unmodelledAt, underWayAt, areUneven, hasHighLevel, isUnrequested, isBad, isMalformed, hasDifferent, isDifferent, isOutOfRange, Numbers}
+use Rattle.history.specs.Call.{run, hold, query, Call, reset, write, read, vector, pass, effect, recordAfter, deviceIn}
+use Rattle.history.specs.Table.{isNoDevice, isNoRecord, isWrongLength, isNoPlace, isNowhere, isNoVector, reservedAt, unmodelledAt, underWayAt, areUneven, isHighLevel, hasHighLevel, isUnrequested, isBad, isMalformed, hasDifferent, isDifferent, isOutOfRange, Numbers}
 
 -- writes
 write-in : (d : Device) (p : Place) (v : ℕ) → v < 256
@@ -109,11 +111,15 @@ unfolding vectorOn
 vector-table (Accepted d) n = vector-in d n
 vector-table NoDevice n = refl
 
--- runs
+-- runs and holds
 low-level : (l : ℕ) → ltb l 32 ≡ eqb (l / 32) 0
 low-level l =
     split (ltb l 32) (λ h. let k = ltb-true l 32 h in h ∙ sym (eq-eqb (l / 32) 0 (omega (arith, k))))
     (λ h. let k = ltb-false l 32 h in h ∙ sym (ne-eqb (l / 32) 0 (λ e. omega (arith, k, e))))
+
+not-not : (t : Bool) → t ≡ not (not t)
+not-not true = refl
+not-not false = refl
 
 levels-by : (t x y : Bool) → x ≡ not y → pick t x false ≡ not (not t || y)
 levels-by true x y h = h
@@ -134,6 +140,15 @@ run-table : (x : Decoded) (ls os : List ℕ) → answerOf (runOn x ls os) ≡ pi
 unfolding runOn
 run-table (Accepted d) ls os = run-by (ranOf d ls) (eqb (length os) (length ls)) (areLevels ls) (hasHighLevel ls) (levels-are ls)
 run-table NoDevice ls os = refl
+
+hold-by : (d : Device) (o : ℕ) (low high : Bool) → low ≡ not high → readAnswerOf (pick low (Value o d) (NoValue Level)) ≡ pick high 7 0
+hold-by d o low true h = ap (λ (t : Bool). readAnswerOf (pick t (Value o d) (NoValue Level))) h
+hold-by d o low false h = ap (λ (t : Bool). readAnswerOf (pick t (Value o d) (NoValue Level))) h
+
+hold-table : (x : Decoded) (l n : ℕ) → readAnswerOf (holdOn x l n) ≡ pick (isNoDevice x) 5 (pick (isHighLevel l) 7 0)
+unfolding holdOn holdIn
+hold-table (Accepted d) l n = hold-by _ _ (ltb l 32) (isHighLevel l) (low-level l ∙ not-not (eqb (l / 32) 0))
+hold-table NoDevice l n = refl
 
 -- reset and report
 reset-by : (t : Bool) → answerOf (pick t (Done resetDevice) (Refused Record)) ≡ pick (not t) 5 0
@@ -237,6 +252,7 @@ numbered s = record {
   read = read-table (decodeOf s);
   vector = vector-table (decodeOf s);
   run = run-table (decodeOf s);
+  hold = hold-table (decodeOf s);
   report = report-table (decodeOf s);
   malformed = malformed-table;
   replay = replay-table s;
@@ -259,6 +275,7 @@ refused-keeps s (write a v) f = kept-refused s (writeOn (decodeOf s) a v) f
 refused-keeps s (read a) f = kept-unread s (readOn (decodeOf s) a) f
 refused-keeps s (vector n) f = kept-refused s (vectorOn (decodeOf s) n) f
 refused-keeps s (pass (run ls os)) f = kept-refused s (runOn (decodeOf s) ls os) f
+refused-keeps s (pass (hold l n)) f = kept-unread s (holdOn (decodeOf s) l n) f
 refused-keeps s (pass (query q)) f = refl
 
 -- .. and the output slice
@@ -269,13 +286,16 @@ shown-refused os new (Refused r) f = refl
 pub refused-outputs : (s ls os : List ℕ) → (runAnswer s ls os ≡ 0 → ⊥) → outputsAfterRun s ls os ≡ os
 refused-outputs s ls os f = shown-refused os (outputsOn (decodeOf s) ls) (runOn (decodeOf s) ls os) f
 
--- a refused read or report answers 0
+-- a refused read, hold or report answers 0
 no-value : (g : Reading) → (readAnswerOf g ≡ 0 → ⊥) → valueOf g ≡ 0
 no-value (Value v d) f = absurd (f refl)
 no-value (NoValue r) f = refl
 
 pub refused-value : (s : List ℕ) (a : ℕ) → (readAnswer s a ≡ 0 → ⊥) → readValue s a ≡ 0
 refused-value s a f = no-value (readOn (decodeOf s) a) f
+
+pub refused-output : (s : List ℕ) (l n : ℕ) → (holdAnswer s l n ≡ 0 → ⊥) → holdOutput s l n ≡ 0
+refused-output s l n f = no-value (holdOn (decodeOf s) l n) f
 
 no-report : (x : Decoded) → (requestsAnswerOn x ≡ 0 → ⊥) → requestsValueOn x ≡ 0
 unfolding requestsAnswerOn requestsValueOn

@@ -4,7 +4,7 @@ use mathlib.Core.Bool.{Bool, true}
 use mathlib.Core.List.{List, [], _∷_, _++_, map}
 use mathlib.Core.Path.{_≡_}
 use lib.Dec.{eqb}
-use lib.ListN.{length}
+use lib.ListN.{length, replicate}
 use Rattle.choice.specs.Pick.{pick}
 use Rattle.usart.specs.declared.unit.Usart.{Usart}
 use Rattle.device.specs.Address.{placeOf}
@@ -14,12 +14,14 @@ use Rattle.device.specs.declared.unit.Device.{Device}
 use Rattle.record.specs.Codec.{decodeOf}
 use Rattle.record.specs.declared.codec.Decoded.{Decoded}
 use Rattle.record.specs.declared.codec.Decoded.the-variants.{Accepted, Refused}
-use Rattle.warpmagpie.specs.Calls.{resetAnswer, recordAfterReset, writeAnswer, recordAfterWrite, readAnswer, recordAfterRead, vectorAnswer, recordAfterVector, runAnswer, recordAfterRun, outputsAfterRun, requestsAnswer}
+use Rattle.warpmagpie.specs.Calls.{resetAnswer, recordAfterReset, writeAnswer, recordAfterWrite, readAnswer, recordAfterRead, vectorAnswer, recordAfterVector, runAnswer, recordAfterRun, outputsOn, outputsAfterRun, requestsAnswer}
+use Rattle.holding.specs.Hold.{holdAnswer, recordAfterHold}
 
--- what passes clocks, or none, and touches no register: a run, with its slices of levels and outputs; and any query, a
--- call that leaves the record as it is, by the number that it answers
+-- what passes clocks, or none, and touches no register: a run, with its slices of levels and outputs; a hold of a level
+-- byte for so many clocks; and any query, a call that leaves the record as it is, by the number that it answers
 pub data Passing : Type 0 where
   run : List ℕ → List ℕ → Passing
+  hold : ℕ → ℕ → Passing
   query : (List ℕ → ℕ) → Passing
 
 -- reset; write an address and value; read an address; take a vector; or pass clocks
@@ -35,7 +37,8 @@ abbrev pub report : Call
 report = pass (query requestsAnswer)
 
 -- what a call does: the number that it answers, the record that it leaves, the level bytes of the clocks that it
--- passed, and the output bytes after them
+-- passed, and the output bytes after them: of a run those that it answers; of a hold, which answers the last alone,
+-- those that the rules give
 pub record Effect : Type 0 where
   pub answer : ℕ
   pub after : List ℕ
@@ -56,6 +59,8 @@ effect s (write a v) = noClocks (writeAnswer s a v) (recordAfterWrite s a v)
 effect s (read a) = noClocks (readAnswer s a) (recordAfterRead s a)
 effect s (vector n) = noClocks (vectorAnswer s n) (recordAfterVector s n)
 effect s (pass (run ls os)) = passed (runAnswer s ls os) (recordAfterRun s ls os) ls (outputsAfterRun s ls os)
+effect s (pass (hold l n)) =
+    passed (holdAnswer s l n) (recordAfterHold s l n) (replicate n l) (outputsOn (decodeOf s) (replicate n l))
 effect s (pass (query q)) = noClocks (q s) s
 
 abbrev pub recordAfter : List ℕ → Call → List ℕ

@@ -5,3 +5,4 @@ pub mod Serial
 pub mod Marked
 pub mod Table
 pub mod Replaying
+pub mod Holding

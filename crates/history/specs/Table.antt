@@ -29,6 +29,7 @@ use Rattle.record.specs.Refusing.{NoRecord}
 use Rattle.record.specs.declared.codec.Decoded.{Decoded}
 use Rattle.record.specs.declared.codec.Decoded.the-variants.{Accepted, Refused}
 use Rattle.warpmagpie.specs.Calls.{resetAnswer, writeAnswer, readAnswer, vectorAnswer, runAnswer, requestsAnswer}
+use Rattle.holding.specs.Hold.{holdAnswer}
 use Rattle.holding.specs.Replay.{replayAnswer}
 use Rattle.warpmagpie.specs.Baud.{planAnswer, checkAnswer}
 use Rattle.history.specs.Call.{deviceOf}
@@ -82,9 +83,12 @@ abbrev pub areUneven : List ℕ → List ℕ → Bool
 areUneven ls os = not (eqb (length os) (length ls))
 
 -- 7: a level byte with bit 5, 6 or 7 set
+abbrev pub isHighLevel : ℕ → Bool
+isHighLevel l = not (eqb (l / 32) 0)
+
 unfoldable pub hasHighLevel : List ℕ → Bool
 hasHighLevel [] = false
-hasHighLevel (l ∷ ls) = not (eqb (l / 32) 0) || hasHighLevel ls
+hasHighLevel (l ∷ ls) = isHighLevel l || hasHighLevel ls
 
 -- 8: vector taken without its request, TXC with TXCIE for vector 0 and SPIF with SPIE for vector 1
 abbrev pub isUnrequested : Device → ℕ → Bool
@@ -110,7 +114,7 @@ isDifferent text = hasDifferent resetDevice (contentsOf text .items)
 abbrev pub isOutOfRange : ℕ → ℕ → Bool
 isOutOfRange clock rate = (eqb clock 0 || ltb 20000000 clock) || (eqb rate 0 || ltb 2500000 rate)
 
--- order: 5, 1, 2, 3, 4; for a run 5, 6, 7; for a vector 5, 1, 8; for a replay 5, 9, 10
+-- order: 5, 1, 2, 3, 4; for a run 5, 6, 7; for a hold 5, 7; for a vector 5, 1, 8; for a replay 5, 9, 10
 pub record Numbers (s : List ℕ) : Type 0 where
   pub noRecord : (isNoRecord s ≡ true → NoRecord s) × (NoRecord s → isNoRecord s ≡ true)
   pub reset : resetAnswer s ≡ pick (isWrongLength s) 5 0
@@ -125,6 +129,7 @@ pub record Numbers (s : List ℕ) : Type 0 where
   pub read : (a : ℕ) → readAnswer s a ≡ pick (isNoRecord s) 5 (pick (isNowhere a) 1 0)
   pub vector : (n : ℕ) → vectorAnswer s n ≡ pick (isNoRecord s) 5 (pick (isNoVector n) 1 (pick (isUnrequested (deviceOf s) n) 8 0))
   pub run : (ls os : List ℕ) → runAnswer s ls os ≡ pick (isNoRecord s) 5 (pick (areUneven ls os) 6 (pick (hasHighLevel ls) 7 0))
+  pub hold : (l n : ℕ) → holdAnswer s l n ≡ pick (isNoRecord s) 5 (pick (isHighLevel l) 7 0)
   pub report : requestsAnswer s ≡ pick (isNoRecord s) 5 0
   pub malformed : (text : List ℕ)
       → (isMalformed text ≡ true → (is : List Item) → IsText text is → ⊥) × (((is : List Item) → IsText text is → ⊥) → isMalformed text ≡ true)
