@@ -9,12 +9,14 @@ if [ -e "$archive" ] && [ -z "$(find crates crates.txt -newer "$archive" -print 
 echo "archive: proving and building, which takes some minutes the first time" >&2
 mkdir -p target
 rm -f "$archive"
-for crate in warpmagpie holding; do
+for crate in warpmagpie holding tracing; do
     rt staticlib $crate >target/staticlib.log 2>&1 || { cat target/staticlib.log; exit 1; }
 done
 made=$(mktemp -d)
 trap 'rm -rf "$made"' EXIT
 mv "$archive" "$made/whole.a"
-(cd "$made" && ar x "$OLDPWD/target/staticlib/libholding.a" && ar r whole.a ./*.o) >target/staticlib.log 2>&1 ||
-    { cat target/staticlib.log; exit 1; }
+for crate in holding tracing; do
+    (cd "$made" && ar x "$OLDPWD/target/staticlib/lib$crate.a" && ar r whole.a "$crate.o") >target/staticlib.log 2>&1 ||
+        { cat target/staticlib.log; exit 1; }
+done
 mv "$made/whole.a" "$archive"

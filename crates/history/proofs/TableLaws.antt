@@ -55,7 +55,7 @@ use Rattle.record.proofs.Five.{five}
 use Rattle.record.proofs.Round.{record-decode}
 use Rattle.warpmagpie.specs.Calls.{resetOn, writeOn, readOn, readAnswer, readValue, vectorOn, runOn, outputsOn, runAnswer, recordAfterRun, outputsAfterRun, requestsAnswerOn, requestsAnswer, requestsValueOn, requestsValue}
 use Rattle.holding.specs.Hold.{holdIn, holdOn, holdAnswer, holdOutput}
-use Rattle.holding.specs.Replay.{replayAnswer}
+use Rattle.tracing.specs.Replay.{replayAnswer}
 use Rattle.warpmagpie.specs.Baud.{planAnswer, planUbrr, planTenths, checkAnswer, checkAccepted}
 use Rattle.history.specs.Call.{run, hold, query, Call, reset, write, read, vector, pass, effect, recordAfter, deviceIn}
 use Rattle.history.specs.Table.{isNoDevice, isNoRecord, isWrongLength, isNoPlace, isNowhere, isNoVector, reservedAt, unmodelledAt, underWayAt, areUneven, isHighLevel, hasHighLevel, isUnrequested, isBad, isMalformed, hasDifferent, isDifferent, isOutOfRange, Numbers}

@@ -9,7 +9,7 @@ use Rattle.trace.specs.Meaning.{IsText, MalformedAt}
 use Rattle.trace.specs.declared.item.Item.{Item}
 use Rattle.trace.specs.declared.item.Item.the-variants.{Write, Read, Vector, Clocks}
 use Rattle.warpmagpie.specs.Calls.{recordAfterReset, writeAnswer, readAnswer, readValue, vectorAnswer}
-use Rattle.holding.specs.Replay.{replayAnswer, replayLine, recordAfterReplay}
+use Rattle.tracing.specs.Replay.{replayAnswer, replayLine, recordAfterReplay}
 use Rattle.history.specs.Call.{Call, write, read, vector, pass, run, recordAfter, finalRecord}
 
 -- the call of an item; `C` is a run of as many equal level bytes

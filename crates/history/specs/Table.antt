@@ -30,7 +30,7 @@ use Rattle.record.specs.declared.codec.Decoded.{Decoded}
 use Rattle.record.specs.declared.codec.Decoded.the-variants.{Accepted, Refused}
 use Rattle.warpmagpie.specs.Calls.{resetAnswer, writeAnswer, readAnswer, vectorAnswer, runAnswer, requestsAnswer}
 use Rattle.holding.specs.Hold.{holdAnswer}
-use Rattle.holding.specs.Replay.{replayAnswer}
+use Rattle.tracing.specs.Replay.{replayAnswer}
 use Rattle.warpmagpie.specs.Baud.{planAnswer, checkAnswer}
 use Rattle.history.specs.Call.{deviceOf}
 

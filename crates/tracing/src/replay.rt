@@ -2,7 +2,7 @@
 use answer::Refusal;
 use playback::Outcome;
 ghost use mathlib.Core.Path.{_≡_};
-ghost use Rattle.holding.specs.Replay.{replayAnswer, replayLine, recordAfterReplay};
+ghost use Rattle.tracing.specs.Replay.{replayAnswer, replayLine, recordAfterReplay};
 
 #[no_mangle]
 pub extern "C" fn warpmagpie_replay(image: &mut [u8], text: &[u8], line: &mut usize) -> u8

@@ -1,7 +1,7 @@
-use Rattle.holding.proofs.Cases.{replay-refused, replay-done, replay-stopped}
+use Rattle.tracing.proofs.Cases.{replay-refused, replay-done, replay-stopped}
 use borrow.Author.Needs.{needs}
-use Rattle.holding.proofs.replay.warpmagpie_replay.Statement.{statement}
-use Rattle.holding.proofs.replay.warpmagpie_replay.Tie as tie
+use Rattle.tracing.proofs.replay.warpmagpie_replay.Statement.{statement}
+use Rattle.tracing.proofs.replay.warpmagpie_replay.Tie as tie
 
 returns : tie.Need-returns
 returns c = replay-refused _ (c .before .before .before .before .args .text .now) (c .before .if1 .taken) (c .number .ensures)
