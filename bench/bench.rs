@@ -9,8 +9,10 @@ mod archive;
 #[allow(dead_code)]
 #[path = "../tests/host/model/mod.rs"]
 mod model;
+mod holds;
 mod replays;
 
+use holds::Hold;
 use model::{address, level, record, spi, usart, Device};
 use replays::{Line, Trace};
 use std::hint::black_box;
@@ -21,10 +23,14 @@ use std::time::Instant;
 /// does can only slow a round down.
 const ROUNDS: usize = 400;
 
-/// Ratios to reach: of runs, of turns on an idle device at UBRR 51, and of turns with traffic or at UBRR 0.
+/// Ratios to reach: of runs, of turns on an idle device at UBRR 51, of turns with traffic or at UBRR 0, and of the hold
+/// of an idle device at UBRR 51.
 const RUN_LIMIT: f64 = 1.2;
 const IDLE_LIMIT: f64 = 8.0;
 const BUSY_LIMIT: f64 = 11.0;
+const HOLD_LIMIT: f64 = 0.00001;
+/// ns that no hold may take, whatever the number of clocks.
+const HOLD_NS: f64 = 2000.0;
 
 const IDLE: u8 = level::RXD | level::SS;
 const TICKS: usize = 16;
@@ -34,6 +40,9 @@ const SLOW: u8 = 51;
 /// Clocks of a frame at `SLOW`, and those of a byte that an SPI master transfers at divisor 2.
 const FRAME_CLOCKS: usize = 8320;
 const TRANSFER_CLOCKS: usize = 16;
+/// UCSR0C with parity and two stop bits and, where UCSZ2 is set, nine data bits; the divisor's bits of SPCR.
+const LONGEST_FRAME: u8 = 0x2E;
+const DIVISOR_128: u8 = 0x03;
 /// Turns in a round: whole frames at either rate.
 const TURNS: usize = 4 * FRAME_CLOCKS;
 
@@ -242,6 +251,64 @@ fn print_replays(rounds: usize) {
     println!("ns of a replay, idle, 4294967295 clocks {:>15.0}", replays::whole(text, rounds));
 }
 
+/// The device with its SPI enabled as a slave.
+fn as_slave(mut device: Device) -> Device {
+    write(&mut device, address::DDRB, spi::DDRB_MISO);
+    write(&mut device, address::SPCR, spi::SPE);
+    device
+}
+
+/// The device with a byte to send, so many clocks after it was written.
+fn sending(mut device: Device, clocks: usize) -> Device {
+    write(&mut device, address::UDR0, BYTE);
+    (0..clocks).for_each(|_| {
+        device.clock(IDLE);
+    });
+    device
+}
+
+/// As much as a device can have to do when a hold begins: two of the longest frames to send, a byte to transfer at
+/// divisor 128, and, with the line held low, a frame that comes in.
+fn busiest() -> Device {
+    let mut device = as_master(Device::reset());
+    write(&mut device, address::SPCR, spi::SPE | spi::MSTR | DIVISOR_128);
+    write(&mut device, address::UBRR0L, SLOW);
+    write(&mut device, address::UCSR0C, LONGEST_FRAME);
+    write(&mut device, address::UCSR0B, usart::UCSZ2 | usart::RXEN | usart::TXEN);
+    let mut device = sending(device, 2 * (SLOW as usize + 1));
+    write(&mut device, address::UDR0, BYTE);
+    write(&mut device, address::SPDR, BYTE);
+    device
+}
+
+fn holds() -> Vec<Hold> {
+    let clocks = 100_000_000;
+    let row = |name, start, level| Hold { name, start, level, clocks };
+    let mut off = Device::reset();
+    write(&mut off, address::UBRR0L, SLOW);
+    vec![
+        row("idle, UBRR 51", serial(SLOW), IDLE),
+        row("idle, UBRR 0", serial(0), IDLE),
+        row("receiver off, UBRR 51", off, IDLE),
+        row("line held low, UBRR 51", serial(SLOW), level::SS),
+        row("SPI slave selected and quiet", as_slave(serial(SLOW)), level::RXD),
+        row("SPI master enabled and quiet", as_master(serial(SLOW)), IDLE),
+        row("a frame being sent, UBRR 51", sending(serial(SLOW), 1000), IDLE),
+        row("two frames to send, one comes in, an SPI byte", busiest(), level::SS),
+    ]
+}
+
+fn print_holds(rounds: usize) {
+    println!("{:<46}{:>9}{:>12}{:>13}", "ns of a hold of 100000000 clocks", "archive", "model", "ratio");
+    for hold in holds() {
+        let [archive, model] = holds::race(&hold, rounds);
+        println!("{:<46}{archive:>9.0}{model:>12.0}{:>13.10}", hold.name, archive / model);
+    }
+    let hold = Hold { name: "idle", start: serial(SLOW), level: IDLE, clocks: u32::MAX };
+    println!("{:<46}{:>9.0}", "idle, UBRR 51, 4294967295 clocks", holds::alone(&hold, rounds));
+    println!("to reach: {HOLD_LIMIT} of the model at UBRR 51 idle, and no hold above {HOLD_NS:.0}");
+}
+
 /// Runs something and lowers the best time so far.
 fn time(best: &mut f64, clocks: usize, run: impl FnOnce()) {
     let begun = Instant::now();
@@ -335,5 +402,6 @@ fn main() {
     let rounds = std::env::args().nth(1).map_or(ROUNDS, |word| word.parse().expect("a number of rounds"));
     print_table("ns a clock", &runs(), rounds);
     print_table("ns a run of one clock, each with a report", &turns(), rounds);
+    print_holds(rounds);
     print_replays(rounds);
 }

@@ -18,10 +18,11 @@ enum {
     FRAME_BITS = 10,
     FRAME_CLOCKS = FRAME_BITS * TICKS, /* at UBRR 0 */
     BYTE = 0x65,
-    REPEATED = 50
+    REPEATED = 50,
+    LONG = 100000000
 };
 
-enum kind { RUN, REPORT, PLAN, CHECK };
+enum kind { RUN, HOLD, REPORT, PLAN, CHECK };
 
 /* A round is so many calls on a device that is as it was before, or on a clock and a rate. */
 struct row {
@@ -39,6 +40,8 @@ static const struct row ROWS[] = {
     {.name = "run of one clock, idle, UBRR 0", .ubrr = 0, .calls = TICKS},
     {.name = "run of one clock, full duplex, UBRR 0", .ubrr = 0, .traffic = true, .calls = FRAME_CLOCKS},
     {.name = "run of one clock, both frames begin, UBRR 0", .ubrr = 0, .traffic = true, .calls = 1},
+    {.name = "hold of 100000000 clocks, idle, UBRR 51", .kind = HOLD, .ubrr = SLOW, .calls = REPEATED},
+    {.name = "hold of 100000000 clocks, a frame to send", .kind = HOLD, .ubrr = SLOW, .traffic = true, .calls = 1},
     {.name = "plan of a baud setting, UBRR 0", .kind = PLAN, .clock = 16, .rate = 1, .calls = REPEATED},
     {.name = "plan of a baud setting, UBRR 8", .kind = PLAN, .clock = 16000000, .rate = 115200, .calls = REPEATED},
     {.name = "plan of a baud setting, UBRR 4095", .kind = PLAN, .clock = 20000000, .rate = 1, .calls = REPEATED},
@@ -82,6 +85,7 @@ static uint8_t call(const struct row *row, uint8_t *record, uint8_t level)
     int32_t tenths;
     switch (row->kind) {
     case RUN: return run(record, level);
+    case HOLD: return warpmagpie_hold(record, LEN, IDLE, LONG, &byte);
     case REPORT: return warpmagpie_requests(record, LEN, &byte);
     case PLAN: return warpmagpie_plan_baud(row->clock, row->rate, 0, &ubrr, &tenths);
     default: return warpmagpie_check_baud(row->clock, row->rate, 0, row->ubrr, &byte);

@@ -78,12 +78,14 @@ void circuit_clock(struct circuit *circuit)
     vcd_put(&circuit->vcd, node_nanoseconds(chime), waveform(circuit));
 }
 
-/* A receiver that has just been enabled remembers a low sample: it takes no start bit before it has seen the line high
-   (document 01). So the line rests for the time of a frame before anything is sent. */
-static void settle(struct circuit *circuit)
+void circuit_rest(struct circuit *circuit, uint64_t clocks)
 {
-    for (int clocks = 0; clocks < SERIAL_FRAME_CLOCKS; clocks++)
-        circuit_clock(circuit);
+    struct node *doorbell = &circuit->doorbell.node, *chime = &circuit->chime;
+    unsigned before = waveform(circuit);
+    node_hold(doorbell, doorbell_levels(circuit), node_clocks_at(doorbell, chime, chime->clocks + clocks) - doorbell->clocks);
+    node_hold(chime, chime_levels(circuit), clocks);
+    if (waveform(circuit) != before)
+        node_stop(chime, "a wire has moved in a time that was to be quiet");
 }
 
 static _Noreturn void stop_without(const char *path)
@@ -106,7 +108,9 @@ void circuit_start(struct circuit *circuit, const char *vcd_path, const char *tr
     flash_start(&circuit->flash);
     if (vcd_path != NULL && !vcd_open(&circuit->vcd, vcd_path, NAMES, SIGNALS, waveform(circuit)))
         stop_without(vcd_path);
-    settle(circuit);
+    /* A receiver that has just been enabled remembers a low sample: it takes no start bit before it has seen the line
+       high (document 01). So the line rests for the time of a frame before anything is sent. */
+    circuit_rest(circuit, SERIAL_FRAME_CLOCKS);
 }
 
 void circuit_select_flash(struct circuit *circuit, bool selected)
@@ -116,10 +120,14 @@ void circuit_select_flash(struct circuit *circuit, bool selected)
     circuit_clock(circuit);
 }
 
-void circuit_stop(struct circuit *circuit)
+void circuit_end_waveform(struct circuit *circuit)
 {
     if (!vcd_close(&circuit->vcd, node_nanoseconds(&circuit->chime)))
         node_stop(&circuit->chime, "the waveform could not be written");
+}
+
+void circuit_stop(struct circuit *circuit)
+{
     if (!recorder_close(&circuit->chime.recorder))
         node_stop(&circuit->chime, "the trace could not be written");
 }

@@ -25,10 +25,17 @@ void circuit_start(struct circuit *circuit, const char *vcd_path, const char *tr
    of its own. */
 void circuit_clock(struct circuit *circuit);
 
+/* Passes so many clocks of the chime, and those of the doorbell that come before the last of them, at the levels that
+   the wires carry now. For a time in which neither side has anything to send, and neither's program does anything. */
+void circuit_rest(struct circuit *circuit, uint64_t clocks);
+
 /* Sets the flash's chip select. The archive models SS as an input only: what the SS pin shows as an output is bit 2 of
    PORTB, which belongs to the processor core. So the rig holds this level itself, as the core's PORTB would. A clock
    passes, so that the flash sees it. */
 void circuit_select_flash(struct circuit *circuit, bool selected);
+
+/* The waveform goes up to here, where one is written. */
+void circuit_end_waveform(struct circuit *circuit);
 
 void circuit_stop(struct circuit *circuit);
 

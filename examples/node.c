@@ -88,12 +88,29 @@ void node_clock(struct node *node, uint8_t levels)
     node->clocks++;
 }
 
+void node_hold(struct node *node, uint8_t levels, uint64_t clocks)
+{
+    while (clocks != 0) {
+        uint32_t some = clocks < UINT32_MAX ? (uint32_t)clocks : UINT32_MAX;
+        check(node, "hold", "", warpmagpie_hold(node->record, sizeof node->record, levels, some, &node->output));
+        recorder_clocks(&node->recorder, levels, some);
+        node->clocks += some;
+        clocks -= some;
+    }
+}
+
 bool node_is_next(const struct node *node, const struct node *other)
 {
     return (node->clocks + 1) * other->hertz <= (other->clocks + 1) * node->hertz;
 }
 
+uint64_t node_clocks_at(const struct node *node, const struct node *other, uint64_t others_clocks)
+{
+    return others_clocks * node->hertz / other->hertz;
+}
+
+/* Seconds and the rest of one by themselves: a night's clocks times NANOSECONDS do not fit. */
 uint64_t node_nanoseconds(const struct node *node)
 {
-    return node->clocks * NANOSECONDS / node->hertz;
+    return node->clocks / node->hertz * NANOSECONDS + node->clocks % node->hertz * NANOSECONDS / node->hertz;
 }

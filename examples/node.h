@@ -28,9 +28,15 @@ void node_take_vector(struct node *node, uint8_t vector);
 /* Passes one clock with these pin levels; node->output is what the pins carry after it. */
 void node_clock(struct node *node, uint8_t levels);
 
+/* Passes so many clocks with these pin levels; node->output is what the pins carry after the last of them. */
+void node_hold(struct node *node, uint8_t levels, uint64_t clocks);
+
 /* Whether this node's next clock comes before the other's, or at the same time. Exact: the times are compared as
    fractions. */
 bool node_is_next(const struct node *node, const struct node *other);
+
+/* The clocks that this node has passed when the other has passed so many. */
+uint64_t node_clocks_at(const struct node *node, const struct node *other, uint64_t others_clocks);
 
 /* Time of the last clock, rounded down. */
 uint64_t node_nanoseconds(const struct node *node);

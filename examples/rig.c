@@ -1,8 +1,8 @@
 /* A doorbell sends firmware to a chime, twice, over a wire; the chime writes it to a flash on its SPI.
 
    Image 1 arrives whole, though the chime's crystal is 1.5 percent off. During image 2 the chime erases a flash page
-   and does not read UDR0: a frame is lost, the frame after it carries DOR, the chime refuses the image. Exits with 0 if
-   exactly that was seen.
+   and does not read UDR0: a frame is lost, the frame after it carries DOR, the chime refuses the image. Then both sit
+   idle for a night, which is not in the waveform. Exits with 0 if exactly that was seen.
 
    Usage: rig [--quiet | --sent] [--trace chime.trace] [waveform.vcd]
    --quiet prints the summary only; --sent prints the bytes that have to be on the wires and the record that the chime
@@ -16,7 +16,8 @@
 enum {
     SEED_1 = 11, /* of the payloads */
     SEED_2 = 90,
-    OLD_FIRMWARE = 0x00
+    OLD_FIRMWARE = 0x00,
+    NIGHT_SECONDS = 8 * 60 * 60
 };
 static const struct slot SLOT_1 = {.address = 0, .in_use = false}, SLOT_2 = {.address = FLASH_PAGE_LEN, .in_use = true};
 
@@ -66,6 +67,15 @@ static bool was_overrun(const struct transfer *transfer)
 static bool was_refused(const struct transfer *transfer)
 {
     return !transfer->report.accepted && transfer->reply == REPLY_REFUSED;
+}
+
+/* Nothing comes to the chime and nothing asks for it; that no wire moves is seen to by circuit_rest. */
+static bool night_is_quiet(struct circuit *circuit)
+{
+    struct node *chime = &circuit->chime;
+    uint8_t flags = node_read(chime, WARPMAGPIE_UCSR0A), requests = node_requests(chime);
+    circuit_rest(circuit, NIGHT_SECONDS * chime->hertz);
+    return node_read(chime, WARPMAGPIE_UCSR0A) == flags && node_requests(chime) == requests;
 }
 
 static void print_summary(int number, const struct transfer *transfer)
@@ -143,6 +153,8 @@ int main(int argc, char **argv)
     memset(circuit.flash.cells + SLOT_2.address, OLD_FIRMWARE, FLASH_PAGE_LEN);
     run(&circuit, &first, "image 1: the chime reads each frame in time");
     run(&circuit, &second, "image 2: the chime is busy for some frames");
+    circuit_end_waveform(&circuit);
+    bool quiet = night_is_quiet(&circuit);
     circuit_stop(&circuit);
 
     if (chosen.output == SENT) {
@@ -153,6 +165,7 @@ int main(int argc, char **argv)
     } else {
         print_summary(1, &first);
         print_summary(2, &second);
+        printf("night: %d hours on, %s\n", NIGHT_SECONDS / 3600, quiet ? "nothing came" : "NOT QUIET");
     }
-    return came_whole(&first) && was_overrun(&second) && was_refused(&second) ? EXIT_SUCCESS : EXIT_FAILURE;
+    return came_whole(&first) && was_overrun(&second) && was_refused(&second) && quiet ? EXIT_SUCCESS : EXIT_FAILURE;
 }

@@ -54,10 +54,12 @@ void vcd_put(struct vcd *vcd, uint64_t nanoseconds, unsigned levels)
 
 bool vcd_close(struct vcd *vcd, uint64_t nanoseconds)
 {
-    if (vcd->file == NULL)
+    FILE *file = vcd->file;
+    if (file == NULL)
         return true;
     if (nanoseconds != vcd->time)
-        fprintf(vcd->file, "#%" PRIu64 "\n", nanoseconds);
-    bool failed = ferror(vcd->file) != 0;
-    return fclose(vcd->file) == 0 && !failed;
+        fprintf(file, "#%" PRIu64 "\n", nanoseconds);
+    vcd->file = NULL;
+    bool failed = ferror(file) != 0;
+    return fclose(file) == 0 && !failed;
 }

@@ -25,15 +25,15 @@ extern "C" {
 /* Of header, archive and pkg-config file. MAJOR rises where a rig may have to change its code or drop its stored
    records, MINOR where there is more than before, PATCH with any other change. WARPMAGPIE_VERSION is for #if. */
 #define WARPMAGPIE_VERSION_MAJOR 2
-#define WARPMAGPIE_VERSION_MINOR 2
+#define WARPMAGPIE_VERSION_MINOR 3
 #define WARPMAGPIE_VERSION_PATCH 0
 #define WARPMAGPIE_VERSION \
     (WARPMAGPIE_VERSION_MAJOR * 10000 + WARPMAGPIE_VERSION_MINOR * 100 + WARPMAGPIE_VERSION_PATCH)
 
 #define WARPMAGPIE_RECORD_LEN 64
 
-/* Answers. Where more than one refusal applies, the order is 5, 1, 2, 3, 4; for a run 5, 6, 7; for a vector 5, 1, 8;
-   for a replay 5, 9, 10. Number 12 is kept for a request to come. */
+/* Answers. Where more than one refusal applies, the order is 5, 1, 2, 3, 4; for a run 5, 6, 7; for a hold 5, 7; for
+   a vector 5, 1, 8; for a replay 5, 9, 10. Number 12 is kept for a request to come. */
 enum warpmagpie_answer {
     WARPMAGPIE_DONE = 0,
     WARPMAGPIE_REFUSED_UNKNOWN = 1,     /* no such register address or vector */
@@ -167,6 +167,11 @@ uint8_t warpmagpie_take_vector(uint8_t *record, size_t record_len, uint8_t vecto
    passes. Answers 0, 5, 6 or 7. A run of no clocks is done and changes nothing. */
 uint8_t warpmagpie_run(uint8_t *record, size_t record_len, const uint8_t *levels, size_t levels_len, uint8_t *outputs,
                        size_t outputs_len);
+
+/* Holds one level byte for so many clocks and puts the output byte after the last of them into *output, 0 for no clocks.
+   Record and output are those of as many runs of one clock each, in a time that does not grow with their number.
+   Answers 0, 5 or 7, also for no clocks, which change nothing; *output is 0 on a refusal. */
+uint8_t warpmagpie_hold(uint8_t *record, size_t record_len, uint8_t level, uint32_t clocks, uint8_t *output);
 
 /* Reports the interrupt requests into *requests. Answers 0 or 5; *requests is 0 on a refusal. The record is not
    changed. */

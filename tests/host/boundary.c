@@ -1,5 +1,5 @@
-/* What the nine calls do at the C boundary: with every length of record, levels and outputs, every address and vector,
-   any bytes, every length of a trace and every byte as U2X. Exits with 1 at the first difference.
+/* What the ten calls do at the C boundary: with every length of record, levels and outputs, every address and vector,
+   any bytes, every byte held as a level, every length of a trace and every byte as U2X. Exits with 1 at the first difference.
 
    All is done twice: between guard bytes, which this program looks at itself, and in memory of exactly the length that
    the call is told, so that valgrind sees a byte too far. Usage: boundary [short]; short tries a part of the addresses
@@ -125,14 +125,15 @@ static void holds(const char *what, size_t place, const struct piece *piece, con
 
 /* ---- the calls ---- */
 
-enum call { RESET, WRITE, READ, VECTOR, RUN, REQUESTS, CALLS };
+enum call { RESET, WRITE, READ, VECTOR, RUN, HOLD, REQUESTS, CALLS };
 
-static const char *const CALL_NAMES[CALLS] = {"reset", "write", "read", "vector", "run", "requests"};
+static const char *const CALL_NAMES[CALLS] = {"reset", "write", "read", "vector", "run", "hold", "requests"};
 
 struct arguments {
     uint16_t address;
-    uint8_t value, vector;
-    struct piece levels, outputs, result; /* result: one byte, for read and requests */
+    uint8_t value, vector, level;
+    uint32_t clocks;
+    struct piece levels, outputs, result; /* result: one byte, for read, hold and requests */
 };
 
 static uint8_t call(enum call which, struct piece *record, struct arguments *with)
@@ -145,6 +146,7 @@ static uint8_t call(enum call which, struct piece *record, struct arguments *wit
     case READ: return warpmagpie_read(bytes, len, with->address, with->result.bytes);
     case VECTOR: return warpmagpie_take_vector(bytes, len, with->vector);
     case RUN: return warpmagpie_run(bytes, len, with->levels.bytes, with->levels.len, with->outputs.bytes, with->outputs.len);
+    case HOLD: return warpmagpie_hold(bytes, len, with->level, with->clocks, with->result.bytes);
     default: return warpmagpie_requests(bytes, len, with->result.bytes);
     }
 }
@@ -156,6 +158,8 @@ static struct arguments arguments(bool right, size_t guard)
         .address = right ? WARPMAGPIE_UCSR0A : 0,
         .value = WARPMAGPIE_U2X,
         .vector = right ? WARPMAGPIE_VECTOR_TXC : BYTES - 1,
+        .level = right ? WARPMAGPIE_LEVEL_RXD : LEVEL_FIRST_BAD,
+        .clocks = 3,
         .levels = make_filled(right ? WARPMAGPIE_LEVEL_RXD : LEVEL_FIRST_BAD, 3, guard),
         .outputs = make_filled(GUARD, right ? 3 : 2, guard),
         .result = make_filled(GUARD, 1, guard),
@@ -202,11 +206,11 @@ static uint64_t next_random(uint64_t *state)
 
 /* ---- records ---- */
 
-/* Refused with 5: nothing touched; the result of a read or of requests is 0, and no other call writes there. */
+/* Refused with 5: nothing touched; the result of a read, a hold or of requests is 0, and no other call writes there. */
 static void refuses_record(enum call which, struct piece *record, bool right, size_t place)
 {
     struct arguments with = arguments(right, record->guard);
-    bool answers = which == READ || which == REQUESTS;
+    bool answers = which == READ || which == HOLD || which == REQUESTS;
     uint8_t wanted = answers ? 0 : GUARD;
     expect(CALL_NAMES[which], place, call(which, record, &with), WARPMAGPIE_REFUSED_RECORD);
     untouched("record of a refused call", place, record);
@@ -398,6 +402,52 @@ static void bad_levels(const struct plan *plan)
     drop(&record);
 }
 
+/* ---- holds ---- */
+
+/* A level byte for so many clocks is as many runs of one; with a bad one no clock passes, and none is refused too. */
+static void hold_of(const struct plan *plan, uint8_t level, uint32_t clocks)
+{
+    uint8_t after[WARPMAGPIE_RECORD_LEN], wanted = 0;
+    bool bad = level > LEVEL_MASK;
+    sample(after);
+    expect("write", 0, warpmagpie_write(after, sizeof after, WARPMAGPIE_UDR0, 0x35), WARPMAGPIE_DONE);
+    expect("write", 1, warpmagpie_write(after, sizeof after, WARPMAGPIE_SPDR, 0xC3), WARPMAGPIE_DONE);
+    struct piece record = make(after, sizeof after, sizeof after, plan->guard), output = make_filled(GUARD, 1, plan->guard);
+    for (uint32_t i = 0; i < clocks && !bad; i++)
+        expect("run of one clock", i, warpmagpie_run(after, sizeof after, &level, 1, &wanted, 1), WARPMAGPIE_DONE);
+    expect("hold", level, warpmagpie_hold(record.bytes, record.len, level, clocks, output.bytes),
+           bad ? WARPMAGPIE_REFUSED_LEVEL : WARPMAGPIE_DONE);
+    holds("record after a hold", level, &record, after);
+    holds("output of a hold", level, &output, &wanted);
+    drop(&record);
+    drop(&output);
+}
+
+static void level_holds(const struct plan *plan)
+{
+    for (unsigned level = 0; level < BYTES; level++)
+        for (uint32_t clocks = 0; clocks <= LONGEST; clocks += plan->stride)
+            hold_of(plan, (uint8_t)level, clocks);
+}
+
+/* The longest hold is taken whole: as two, and, at rest, as one that is whole periods of the baud counter shorter. */
+static void longest_holds(void)
+{
+    enum { UBRR = 51, AT_REST = 1000 * (UBRR + 1) };
+    const uint32_t parts[][2] = {{UINT32_MAX, 0}, {UINT32_MAX / 2, UINT32_MAX - UINT32_MAX / 2}, {1, UINT32_MAX - 1},
+                                 {AT_REST, UINT32_MAX % (UBRR + 1)}};
+    uint8_t records[COUNT(parts)][WARPMAGPIE_RECORD_LEN], output;
+    for (size_t i = 0; i < COUNT(parts); i++) {
+        sample(records[i]);
+        expect("write", i, warpmagpie_write(records[i], WARPMAGPIE_RECORD_LEN, WARPMAGPIE_UBRR0L, UBRR), WARPMAGPIE_DONE);
+        expect("write", i, warpmagpie_write(records[i], WARPMAGPIE_RECORD_LEN, WARPMAGPIE_UDR0, 0x35), WARPMAGPIE_DONE);
+        for (size_t part = 0; part < 2; part++)
+            expect("hold", i, warpmagpie_hold(records[i], WARPMAGPIE_RECORD_LEN, WARPMAGPIE_LEVEL_RXD, parts[i][part], &output),
+                   WARPMAGPIE_DONE);
+        expect_true("record after a long hold", i, same(records[i], records[0], WARPMAGPIE_RECORD_LEN));
+    }
+}
+
 /* Where a length is 0 the pointer may be null. */
 static void null_pointers(const struct plan *plan)
 {
@@ -488,6 +538,8 @@ static uint64_t random_call(struct piece *record, uint64_t *random)
     with.address = REGISTERS[choice / CALLS % COUNT(REGISTERS)];
     with.value = (uint8_t)(choice >> 32);
     with.vector = with.value & 1;
+    with.level = with.value & LEVEL_MASK;
+    with.clocks = (uint32_t)(choice >> 40);
     with.levels = random_levels(random, with.value % LONGEST, record->guard);
     with.outputs = make_filled(GUARD, with.levels.len, record->guard);
     /* Reset would make any two records alike. */
@@ -660,6 +712,8 @@ int main(int argc, char **argv)
         resets(&plan);
         run_lengths(&plan);
         bad_levels(&plan);
+        level_holds(&plan);
+        longest_holds();
         null_pointers(&plan);
         addresses(&plan);
         vectors(&plan);

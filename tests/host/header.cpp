@@ -27,6 +27,8 @@ int main()
            WARPMAGPIE_REFUSED_UNREQUESTED);
     expect("run", warpmagpie_run(record, sizeof record, &level, 1, &output, 1), WARPMAGPIE_DONE);
     expect("output", output, WARPMAGPIE_DRIVES_TXD | WARPMAGPIE_OUTPUT_TXD);
+    expect("hold", warpmagpie_hold(record, sizeof record, level, 1000, &output), WARPMAGPIE_DONE);
+    expect("output of a hold", output, WARPMAGPIE_DRIVES_TXD | WARPMAGPIE_OUTPUT_TXD);
     expect("requests", warpmagpie_requests(record, sizeof record, &requests), WARPMAGPIE_DONE);
     expect("bits of the report", requests, WARPMAGPIE_REQUEST_UDRE);
     return differences == 0 ? 0 : 1;
