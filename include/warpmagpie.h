@@ -168,9 +168,9 @@ uint8_t warpmagpie_take_vector(uint8_t *record, size_t record_len, uint8_t vecto
 uint8_t warpmagpie_run(uint8_t *record, size_t record_len, const uint8_t *levels, size_t levels_len, uint8_t *outputs,
                        size_t outputs_len);
 
-/* Holds one level byte for so many clocks and puts the output byte after the last of them into *output, 0 for no clocks.
-   Record and output are those of as many runs of one clock each, in a time that does not grow with their number.
-   Answers 0, 5 or 7, also for no clocks, which change nothing; *output is 0 on a refusal. */
+/* Holds one level byte for so many clocks and puts the output byte after the last of them into *output, 0 for none.
+   Record and output are those of as many runs of one clock each, in a time that does not grow with their number. No
+   clocks change nothing. Answers 0, 5 or 7, which is looked at for no clocks too; *output is 0 on a refusal. */
 uint8_t warpmagpie_hold(uint8_t *record, size_t record_len, uint8_t level, uint32_t clocks, uint8_t *output);
 
 /* Reports the interrupt requests into *requests. Answers 0 or 5; *requests is 0 on a refusal. The record is not

@@ -94,9 +94,9 @@ blank (suc n) = 0 ∷ blank n
 abbrev pub runFor : Bool → ℕ → ℕ → Call
 runFor u2x j n = pass (run (line u2x j n) (blank n))
 
--- a hold while the line is idle; in mid-frame: SPI set up as master with SPIE and a byte sent, every kind of refusal but
--- 5, a byte for the sender, a read of the empty buffer; the first frame is read while the second is on the line. Reports
--- are polled all along
+-- a hold while the line is idle; in mid-frame: SPI set up as master with SPIE and a byte sent, every kind of refusal
+-- but 5, a byte for the sender, a read of the empty buffer; the first frame is read while the second is on the line.
+-- Reports are polled all along
 unfoldable pub calls : Bool → List Call
 calls u2x =
     let n : ℕ = 20 * scale u2x in

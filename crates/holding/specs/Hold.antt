@@ -1,5 +1,5 @@
--- The call that holds one level byte for many clocks (document 02, M-106: 'It must equal that many single clocks'): what
--- it answers, the last output byte, and every byte of the record after it.
+-- The call that holds one level byte for many clocks (document 02, M-106: 'It must equal that many single clocks'):
+-- what it answers, the last output byte, and every byte of the record after it.
 use Prim.Native.Nat.{ℕ, _+_}
 use mathlib.Core.List.{List}
 use mathlib.Core.Path.{_≡_}

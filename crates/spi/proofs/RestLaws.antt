@@ -33,35 +33,34 @@ unfolding differs
 no-difference true = refl
 no-difference false = refl
 
--- a master that stays one: clocks to edge 16, with 64 for each edge after the next; with none due the level of SCK may
--- still be kept
-abbrev masterFar : Levels → Spi → ℕ
-masterFar l s =
-    pick (eqb (s .transfer .left .0) 0) (digit (differs (l .sck) (s .pins .sck))) ((15 - s .transfer .edges) * 64 + s .transfer .left .0)
+-- clocks to edge 16, with 64 for each edge after the next; so many where none is due
+abbrev toLast : ℕ → Transfer → ℕ
+toLast idle t = pick (eqb (t .left .0) 0) idle ((15 - t .edges) * 64 + t .left .0)
 
--- an edge short of the last is followed by another in at most 64 clocks
+-- a master that stays one, with no edge due, is at rest once the level of SCK is kept
+abbrev masterFar : Levels → Spi → ℕ
+masterFar l s = toLast (digit (differs (l .sck) (s .pins .sck))) (s .transfer)
+
 next-edge : (n : ℕ) → nextEdge n < 16 → nextEdge n ≡ n + 1
 unfolding nextEdge
 next-edge n = split (ltb n 15) (λ q. rw q (λ _. refl)) (λ q. rw q (λ h. absurd (omega (arith, h))))
 
+-- an edge is the last, or another follows in at most 64 clocks
 edge-nears : (c : Control) (t : Transfer) (out input : Bool)
-    → let u : Transfer = edgedTransfer t (record { 0 = half c }) (edgedOf (modeOf c) (byteOf t out) input) in
-    pick (eqb (u .left .0) 0) 0 ((15 - u .edges) * 64 + u .left .0) < (15 - t .edges) * 64 + 1
+    → toLast 0 (edgedTransfer t (record { 0 = half c }) (edgedOf (modeOf c) (byteOf t out) input)) < (15 - t .edges) * 64 + 1
 unfolding edgedOf
 edge-nears c t out input =
     let h = half-of (divisorNumber c) in
-    let far : Edged → ℕ = λ e.
-    let u : Transfer = edgedTransfer t (record { 0 = half c }) e in
-    pick (eqb (u .left .0) 0) 0 ((15 - u .edges) * 64 + u .left .0) in
-    pick-ind (λ (e : Edged). far e < (15 - t .edges) * 64 + 1) (ltb (nextEdge (t .edges)) 16) _ _
+    let Nearer : Edged → Type 0 = λ e. toLast 0 (edgedTransfer t (record { 0 = half c }) e) < (15 - t .edges) * 64 + 1 in
+    pick-ind Nearer (ltb (nextEdge (t .edges)) 16) _ _
     (λ q.
     let k = ltb-true (nextEdge (t .edges)) 16 q in
     rw (ne-eqb (half c) 0 (λ z. omega (arith, z, h .low))) (omega (arith, k, next-edge (t .edges) k, h .high)))
     (λ q. omega arith)
 
-pub record Staying (l : Levels) (s : Spi) : Type 0 where
-  pub valid : Valid s
-  pub stays : staysMaster (s .control) (l .ss) ≡ true
+record Staying (l : Levels) (s : Spi) : Type 0 where
+  valid : Valid s
+  stays : staysMaster (s .control) (l .ss) ≡ true
 
 module _ (l : Levels) (s : Spi) where
   stays-clock : staysMaster (s .control) (l .ss) ≡ true → clockOf s l ≡ masterClock s l
@@ -113,25 +112,25 @@ master-settles l s n v h =
     let w : Settling (clockAt l) (Staying l) (λ t. isAtRest t l) (masterFar l) = record { keeps = keeps l; stays = λ t. rest-clock t l; nears = nears l } in
     settles (clockAt l) (λ t. isAtRest t l) w n s v (omega (arith, h, far-range l s (v .valid)))
 
--- no master, after a clock also one that SS makes a slave
-abbrev drives : Control → Bool
-drives c = pick (isEnabled c) (isMaster c) false
+-- an enabled master. One that does not stay one is none after a clock
+abbrev isDriving : Control → Bool
+isDriving c = pick (isEnabled c) (isMaster c) false
 
-faulted-slave : (c : Control) → drives (withoutMstr c) ≡ false
+faulted-slave : (c : Control) → isDriving (withoutMstr c) ≡ false
 faulted-slave c =
     let none : isMaster (withoutMstr c) ≡ false = ne-eqb (withoutMstr c .spcr / 16 % 2) 1 (λ q. omega (arith, q)) in
     split (isEnabled (withoutMstr c)) (λ on. rw (on, none)) (λ off. rw off)
 
 module _ (s : Spi) (l : Levels) where
-  slave-after : staysMaster (s .control) (l .ss) ≡ false → drives (clockOf s l .control) ≡ false
+  slave-after : staysMaster (s .control) (l .ss) ≡ false → isDriving (clockOf s l .control) ≡ false
   unfolding staysMaster byModeOf slaveOf selectedOf
   slave-after h =
-      let Slave : Spi → Type 0 = λ t. drives (t .control) ≡ false in
+      let Slave : Spi → Type 0 = λ t. isDriving (t .control) ≡ false in
       pick-ind Slave (isEnabled (s .control)) _ _
       (λ on. pick-ind Slave (isMaster (s .control)) _ _
       (λ m. pick-ind Slave (isModeFault (s .control) (l .ss)) _ _ (λ _. faulted-slave (s .control)) (λ f. clash refl (rw (on, m, f) at h)))
       (λ m.
-      let slave : drives (s .control) ≡ false = rw (on, m) in
+      let slave : isDriving (s .control) ≡ false = rw (on, m) in
       pick-ind Slave (l .ss) _ _ (λ _. slave)
       (λ _. rw (presented-as s)
       (pick-ind Slave (isSckEdge (cpolOf (s .control)) (s .transfer .edges) (s .pins .sck) (l .sck)) _ _ (λ _. slave) (λ _. slave)))))
@@ -147,7 +146,7 @@ module _ (s : Spi) (l : Levels) where
       (λ z. rw z)
 
   -- with the level of SCK kept, one clock brings an SPI that is no master to rest
-  slave-settles : differs (l .sck) (s .pins .sck) ≡ false → drives (s .control) ≡ false → isAtRest (clockOf s l) l ≡ true
+  slave-settles : differs (l .sck) (s .pins .sck) ≡ false → isDriving (s .control) ≡ false → isAtRest (clockOf s l) l ≡ true
   unfolding isAtRest stepRests slaveRests byModeOf slaveOf selectedOf isSckEdge isUnderWay
   slave-settles d h =
       let Rests : Spi → Type 0 = λ t. isAtRest (withSck t (l .sck)) l ≡ true in
