@@ -1,5 +1,6 @@
 //! Compares the archive `libwarpmagpie.a` with the model in model/: random histories, random devices, damaged records,
-//! lines at the limits of the rate error, devices joined by wires, and records that break one rule.
+//! lines at the limits of the rate error, devices joined by wires, records that break one rule, and long holds. Then
+//! holds that are wrong on purpose take the place of the archive's, and each has to be seen.
 //!
 //! compare [--seed N] [--scale K]
 
@@ -24,6 +25,22 @@ mod devices;
 mod difference;
 #[path = "compare/histories.rs"]
 mod histories;
+#[path = "compare/hold_breaks.rs"]
+mod hold_breaks;
+#[path = "compare/hold_calls.rs"]
+mod hold_calls;
+#[path = "compare/hold_choice.rs"]
+mod hold_choice;
+#[path = "compare/hold_lengths.rs"]
+mod hold_lengths;
+#[path = "compare/hold_refusals.rs"]
+mod hold_refusals;
+#[path = "compare/hold_splits.rs"]
+mod hold_splits;
+#[path = "compare/hold_turns.rs"]
+mod hold_turns;
+#[path = "compare/holds.rs"]
+mod holds;
 #[path = "compare/levels.rs"]
 mod levels;
 #[path = "compare/lines.rs"]
@@ -38,6 +55,10 @@ mod rates;
 mod tally;
 #[path = "compare/wires.rs"]
 mod wires;
+#[path = "compare/wrong_clocks.rs"]
+mod wrong_clocks;
+#[path = "compare/wrong_holds.rs"]
+mod wrong_holds;
 
 use random::Random;
 use tally::Tally;
@@ -47,13 +68,14 @@ const SEED: u64 = 20240328;
 type Part = fn(u64, &mut Random, &mut Tally) -> Result<(), String>;
 
 /// The parts, and how many histories, devices, records or rounds each does at scale 1.
-const PARTS: [(&str, Part, u64); 6] = [
+const PARTS: [(&str, Part, u64); 7] = [
     ("random histories", histories::run, 36_000),
     ("random valid devices", devices::run, 1_400_000),
     ("damaged records", damage::run, 4_500_000),
     ("lines at the limits", lines::run, 35),
     ("devices joined by wires", wires::run, 35),
     ("records that break one rule", broken::run, 10_000),
+    ("long holds", holds::run, 1),
 ];
 
 fn main() {
@@ -69,6 +91,7 @@ fn compare_all(seed: u64, scale: u64) -> Result<(), String> {
             .map_err(|text| format!("part {} ({name}): {text}", number + 1))?;
     }
     tally.complete()?;
+    tally.wrong_holds = wrong_holds::all_are_seen(seed)?;
     println!("{:34}{seed:>12}", "seed");
     println!("{:34}{scale:>12}", "scale");
     tally.print();

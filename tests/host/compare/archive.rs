@@ -16,6 +16,7 @@ extern "C" {
         outputs: *mut u8,
         outputs_len: usize,
     ) -> u8;
+    fn warpmagpie_hold(record: *mut c_uchar, record_len: usize, level: u8, clocks: u32, output: *mut u8) -> u8;
     fn warpmagpie_requests(record: *const c_uchar, record_len: usize, requests: *mut u8) -> u8;
     fn warpmagpie_replay(
         record: *mut c_uchar,
@@ -56,6 +57,11 @@ pub fn run(record: &mut [u8], levels: &[u8], outputs: &mut [u8]) -> u8 {
             outputs.len(),
         )
     }
+}
+
+#[allow(dead_code)] // not every program that has these calls holds
+pub fn hold(record: &mut [u8], level: u8, clocks: u32, output: &mut u8) -> u8 {
+    unsafe { warpmagpie_hold(record.as_mut_ptr(), record.len(), level, clocks, output) }
 }
 
 pub fn requests(record: &[u8], requests: &mut u8) -> u8 {

@@ -26,9 +26,17 @@ pub enum Call<'a> {
         outputs_len: usize,
     },
     Requests,
+    Hold {
+        level: u8,
+        clocks: u32,
+    },
 }
 
-/// What a call answers: the number, the value (0 where the call has none) and the output slice after it.
+/// A hold on a record's bytes: the archive's, or one that is wrong on purpose.
+pub type Hold = fn(&mut [u8], u8, u32, &mut u8) -> u8;
+
+/// What a call answers: the number, the value (0 where the call has none; a hold's is its output byte) and the output
+/// slice after it.
 #[derive(PartialEq)]
 pub struct Answer {
     pub number: u8,
@@ -36,8 +44,28 @@ pub struct Answer {
     pub outputs: Vec<u8>,
 }
 
+/// What has to stand after a call: its answer and the device of the record; none where the bytes stay as they were.
+pub struct After {
+    pub answer: Answer,
+    pub device: Option<Device>,
+}
+
+impl After {
+    /// After a hold that is done: its output byte and the device that it leaves.
+    pub fn hold(output: u8, device: Device) -> After {
+        After {
+            answer: Answer {
+                number: number::DONE,
+                value: output,
+                outputs: Vec::new(),
+            },
+            device: Some(device),
+        }
+    }
+}
+
 /// What value and output slice hold before a call, so that untouched bytes are seen.
-const BEFORE: u8 = 0xA5;
+pub const BEFORE: u8 = 0xA5;
 
 impl Call<'_> {
     /// The place of the call in the tally.
@@ -49,7 +77,12 @@ impl Call<'_> {
             Call::TakeVector { .. } => 3,
             Call::Run { .. } => 4,
             Call::Requests => 5,
+            Call::Hold { .. } => 6,
         }
+    }
+
+    fn has_value(&self) -> bool {
+        matches!(self, Call::Read { .. } | Call::Requests | Call::Hold { .. })
     }
 
     fn outputs(&self) -> Vec<u8> {
@@ -77,18 +110,17 @@ impl fmt::Display for Call<'_> {
                     hex(levels)
                 )
             }
+            Call::Hold { level, clocks } => {
+                write!(to, "hold of level {level:02x} for {clocks} clocks")
+            }
             Call::Reset | Call::Requests => write!(to, "{}", KINDS[self.kind()]),
         }
     }
 }
 
-fn archive_answer(record: &mut [u8], call: &Call) -> Answer {
+fn archive_answer(hold: Hold, record: &mut [u8], call: &Call) -> Answer {
     let mut outputs = call.outputs();
-    let mut value = if matches!(call, Call::Read { .. } | Call::Requests) {
-        BEFORE
-    } else {
-        0
-    };
+    let mut value = if call.has_value() { BEFORE } else { 0 };
     let number = match *call {
         Call::Reset => archive::reset(record),
         Call::Write { address, value } => archive::write(record, address, value),
@@ -96,6 +128,7 @@ fn archive_answer(record: &mut [u8], call: &Call) -> Answer {
         Call::TakeVector { vector } => archive::take_vector(record, vector),
         Call::Run { levels, .. } => archive::run(record, levels, &mut outputs),
         Call::Requests => archive::requests(record, &mut value),
+        Call::Hold { level, clocks } => hold(record, level, clocks, &mut value),
     };
     Answer {
         number,
@@ -125,6 +158,7 @@ fn model_answer(
             (model_run(device, levels, &mut outputs, tally), 0)
         }
         (Call::Requests, Some(device)) => (number::DONE, device.requests()),
+        (Call::Hold { level, clocks }, Some(device)) => model_hold(device, level, clocks, tally),
     };
     Answer {
         number,
@@ -141,11 +175,31 @@ fn model_run(device: &mut Device, levels: &[u8], outputs: &mut [u8], tally: &mut
         return number::LEVEL;
     }
     for (output, &level) in outputs.iter_mut().zip(levels) {
-        let before = *device;
-        *output = device.clock(level);
-        tally.count_clock(&before, device, level);
+        *output = model_clock(device, level, tally);
     }
     number::DONE
+}
+
+/// M-106: 'It must equal that many single clocks', and answers 'the last output byte (0 for no clocks or refused)';
+/// 'Refusals 5 and 7 apply, 7 also for no clocks'.
+fn model_hold(device: &mut Device, level: u8, clocks: u32, tally: &mut Tally) -> (u8, u8) {
+    if level & level::ILLEGAL != 0 {
+        return (number::LEVEL, 0);
+    }
+    let mut output = 0;
+    for _ in 0..clocks {
+        output = model_clock(device, level, tally);
+    }
+    (number::DONE, output)
+}
+
+/// One clock of the model, counted.
+#[inline]
+pub fn model_clock(device: &mut Device, level: u8, tally: &mut Tally) -> u8 {
+    let before = *device;
+    let output = device.clock(level);
+    tally.count_clock(&before, device, level);
+    output
 }
 
 /// Makes the call on both and compares number, value, outputs and every byte of the record.
@@ -155,13 +209,41 @@ pub fn compare(
     call: Call,
     tally: &mut Tally,
 ) -> Result<Answer, String> {
+    compare_by(archive::hold, record, device, call, tally)
+}
+
+/// The same with this hold in the place of the archive's.
+pub fn compare_by(
+    hold: Hold,
+    record: &mut [u8],
+    device: &mut Option<Device>,
+    call: Call,
+    tally: &mut Tally,
+) -> Result<Answer, String> {
+    let after = After {
+        answer: model_answer(device, record.len(), &call, tally),
+        device: *device,
+    };
+    compare_with(hold, record, &after, call, tally)
+}
+
+/// Makes the call on the record alone and compares with what has to stand after it.
+pub fn compare_with(
+    hold: Hold,
+    record: &mut [u8],
+    after: &After,
+    call: Call,
+    tally: &mut Tally,
+) -> Result<Answer, String> {
     let before = record.to_vec();
-    let expected = model_answer(device, record.len(), &call, tally);
-    let given = archive_answer(record, &call);
+    let given = archive_answer(hold, record, &call);
+    let expected = &after.answer;
     tally.count_call(&call, expected.number);
-    let expected_record = device.map_or(before.clone(), |device| encode(&device).to_vec());
+    let expected_record = after
+        .device
+        .map_or(before.clone(), |device| encode(&device).to_vec());
     let untouched = expected.number == number::DONE || *record == before[..];
-    if given == expected && *record == expected_record[..] && untouched {
+    if given == *expected && *record == expected_record[..] && untouched {
         return Ok(given);
     }
     let records = Records {
@@ -169,5 +251,5 @@ pub fn compare(
         after: record,
         expected: &expected_record,
     };
-    Err(difference::text(&call, &given, &expected, &records))
+    Err(difference::text(&call, &given, expected, &records))
 }

@@ -5,16 +5,17 @@ use crate::levels::Levels;
 use crate::model::{address, level, spi, usart, Device};
 use crate::random::Random;
 
-/// A random call; a run is no longer than so many clocks.
+/// A random call; a run or hold is no longer than so many clocks.
 pub fn random_call<'a>(
     device: &Device,
     levels: &'a mut Levels,
     longest: u64,
     random: &mut Random,
 ) -> Call<'a> {
-    // Runs, writes, reads, vectors, reports and resets.
+    // Runs, holds, writes, reads, vectors, reports and resets.
     let kind = match random.below(1000) {
-        0..=419 => 4,
+        0..=359 => 4,
+        360..=419 => 6,
         420..=689 => 1,
         690..=879 => 2,
         880..=939 => 3,
@@ -42,7 +43,8 @@ pub fn call_of_kind<'a>(
             vector: random_vector(random),
         },
         4 => random_run(device, levels, longest, random),
-        _ => Call::Requests,
+        5 => Call::Requests,
+        _ => random_hold(device, levels, longest, random),
     }
 }
 
@@ -62,7 +64,7 @@ fn random_run<'a>(
     let mut outputs_len = clocks;
     if random.percent(4) && clocks > 0 {
         let place = random.below(clocks as u64) as usize;
-        levels[place] |= random.pick(&[0x20, 0x40, 0x80, level::ILLEGAL]);
+        levels[place] |= illegal_bits(random);
     }
     if random.percent(4) {
         let any = random.between(0, longest) as usize;
@@ -72,6 +74,34 @@ fn random_run<'a>(
         levels,
         outputs_len,
     }
+}
+
+/// Bits that make a level byte illegal.
+pub fn illegal_bits(random: &mut Random) -> u8 {
+    random.pick(&[0x20, 0x40, 0x80, level::ILLEGAL])
+}
+
+/// A hold of what the line comes to, or of any level, now and then of an illegal one or for no clocks.
+fn random_hold<'a>(
+    device: &Device,
+    levels: &mut Levels,
+    longest: u64,
+    random: &mut Random,
+) -> Call<'a> {
+    let mut level = if random.flip() {
+        levels.take(1, &device.usart, random)[0]
+    } else {
+        random.byte() & !level::ILLEGAL
+    };
+    if random.percent(4) {
+        level |= illegal_bits(random);
+    }
+    let clocks = match random.below(10) {
+        0 => 0,
+        1..=3 => random.below(9),
+        _ => random.between(0, longest),
+    } as u32;
+    Call::Hold { level, clocks }
 }
 
 fn random_vector(random: &mut Random) -> u8 {

@@ -13,7 +13,7 @@ use crate::model::usart::{Usart, RXB8, TXC, U2X, UBRR_LAST};
 use crate::model::Device;
 use crate::pair::Pair;
 use crate::random::Random;
-use crate::tally::Tally;
+use crate::tally::{Tally, KINDS};
 
 const LONGEST_RUN: u64 = 40;
 
@@ -53,9 +53,9 @@ pub fn run(records: u64, random: &mut Random, tally: &mut Tally) -> Result<(), S
         };
         let base = Pair::of(device)?;
         let mut bytes = damaged(&base, random);
-        // The six calls one after another, so that each of them meets every damage.
+        // All kinds of calls one after another, so that each of them meets every damage.
         let call = call_of_kind(
-            number as usize % 6,
+            number as usize % KINDS.len(),
             &device,
             &mut levels,
             LONGEST_RUN,
@@ -69,7 +69,8 @@ pub fn run(records: u64, random: &mut Random, tally: &mut Tally) -> Result<(), S
     alone.check(tally)
 }
 
-fn damaged(base: &Pair, random: &mut Random) -> Vec<u8> {
+/// The bytes of a pair's record with some of them changed, or more or fewer of them.
+pub fn damaged(base: &Pair, random: &mut Random) -> Vec<u8> {
     let mut bytes = base.record.to_vec();
     match random.below(100) {
         0..=74 => damage_byte(&mut bytes, &base.device, random),

@@ -67,7 +67,7 @@ fn random_baud(random: &mut Random) -> u16 {
 }
 
 /// The baud counter: not above UBRR while a frame is sent or received, and as often as not else.
-fn random_counter(usart: &Usart, random: &mut Random) -> u16 {
+pub fn random_counter(usart: &Usart, random: &mut Random) -> u16 {
     if usart.in_frame() || random.flip() {
         random.between(0, usart.ubrr as u64) as u16
     } else {

@@ -22,11 +22,8 @@ pub fn run(histories: u64, random: &mut Random, tally: &mut Tally) -> Result<(),
 }
 
 fn history(random: &mut Random, tally: &mut Tally) -> Result<(), String> {
-    let mut pair = Pair::reset(tally)?;
+    let mut pair = begun(random, tally)?;
     let mut levels = Levels::new();
-    if random.percent(80) {
-        set_up(&mut pair, random, tally)?;
-    }
     for number in 0..CALLS {
         let call = random_call(&pair.device, &mut levels, LONGEST_RUN, random);
         pair.call(call, tally)
@@ -42,6 +39,15 @@ fn history(random: &mut Random, tally: &mut Tally) -> Result<(), String> {
             .map_err(|text| format!("long run: {text}"))?;
     }
     Ok(())
+}
+
+/// A device after reset, mostly brought into use.
+pub fn begun(random: &mut Random, tally: &mut Tally) -> Result<Pair, String> {
+    let mut pair = Pair::reset(tally)?;
+    if random.percent(80) {
+        set_up(&mut pair, random, tally)?;
+    }
+    Ok(pair)
 }
 
 /// Brings a device into use: size bits first, since UCSZ2 alone would be a reserved code.

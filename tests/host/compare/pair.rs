@@ -1,6 +1,7 @@
 //! A valid record and the model's device that belongs to it, which go through the same calls.
 
-use crate::call::{compare, Answer, Call};
+use crate::archive;
+use crate::call::{compare_by, Answer, Call, Hold};
 use crate::model::record::{decode, encode, LENGTH};
 use crate::model::{address, number, Device};
 use crate::tally::Tally;
@@ -9,6 +10,8 @@ use crate::tally::Tally;
 pub struct Pair {
     pub record: [u8; LENGTH],
     pub device: Device,
+    /// What holds a level on the record: the archive, or a program that is wrong on purpose.
+    pub holds: Hold,
 }
 
 impl Pair {
@@ -20,7 +23,11 @@ impl Pair {
                 "the model does not take back its own record\n{device:?}"
             ));
         }
-        Ok(Pair { record, device })
+        Ok(Pair {
+            record,
+            device,
+            holds: archive::hold,
+        })
     }
 
     /// A pair after the archive's reset.
@@ -28,6 +35,7 @@ impl Pair {
         let mut pair = Pair {
             record: [0xFF; LENGTH],
             device: Device::reset(),
+            holds: archive::hold,
         };
         pair.call(Call::Reset, tally)?;
         Ok(pair)
@@ -42,7 +50,7 @@ impl Pair {
 
     fn call_alone(&mut self, call: Call, tally: &mut Tally) -> Result<Answer, String> {
         let mut device = Some(self.device);
-        let answer = compare(&mut self.record, &mut device, call, tally)?;
+        let answer = compare_by(self.holds, &mut self.record, &mut device, call, tally)?;
         self.device = device.unwrap_or(self.device);
         Ok(answer)
     }
@@ -72,6 +80,12 @@ impl Pair {
             outputs_len: levels.len(),
         };
         self.done(call, tally).map(|answer| answer.outputs)
+    }
+
+    /// Holds a level for so many clocks; answers the last output byte.
+    pub fn hold(&mut self, level: u8, clocks: u32, tally: &mut Tally) -> Result<u8, String> {
+        self.done(Call::Hold { level, clocks }, tally)
+            .map(|answer| answer.value)
     }
 
     /// Reads all registers on a copy, since reads have side effects.

@@ -3,11 +3,19 @@
 use crate::call::Call;
 use crate::model::{level, spi, Device};
 
-pub const KINDS: [&str; 6] = ["reset", "write", "read", "take vector", "run", "requests"];
+pub const KINDS: [&str; 7] = [
+    "reset",
+    "write",
+    "read",
+    "take vector",
+    "run",
+    "requests",
+    "hold",
+];
 
 #[derive(Default)]
 pub struct Tally {
-    pub calls: [u64; 6],
+    pub calls: [u64; 7],
     pub clocks: u64,
     pub frames_received: u64,
     pub frames_sent: u64,
@@ -24,6 +32,13 @@ pub struct Tally {
     pub wire_bytes: u64,
     pub rules_broken: u64,
     pub broken_records: u64,
+    pub lengths_held: u64,
+    /// High clocks after a break: with a high sample among them, and without one.
+    pub starts_after_breaks: u64,
+    pub breaks_gone_on: u64,
+    pub holds_refused: u64,
+    pub holds_split: u64,
+    pub wrong_holds: u64,
 }
 
 impl Tally {
@@ -48,8 +63,11 @@ impl Tally {
         self.spi_bytes += (before.spi.edges == 15 && after.spi.edges == 0 && stayed) as u64;
     }
 
-    /// Every refusal must have been met.
+    /// Every refusal must have been met, and both ends of a break.
     pub fn complete(&self) -> Result<(), String> {
+        if self.starts_after_breaks == 0 || self.breaks_gone_on == 0 {
+            return Err("breaks ended all alike".to_string());
+        }
         match (1..=8).find(|&number| self.numbers[number] == 0) {
             Some(number) => Err(format!(
                 "number {number} was never given: the histories are too short"
@@ -76,6 +94,12 @@ impl Tally {
             ("SPI bytes from device to device", self.wire_bytes),
             ("rules broken one at a time", self.rules_broken),
             ("records that break one rule", self.broken_records),
+            ("lengths held of one device each", self.lengths_held),
+            ("starts found after a break", self.starts_after_breaks),
+            ("breaks that went on", self.breaks_gone_on),
+            ("holds refused", self.holds_refused),
+            ("holds split in two", self.holds_split),
+            ("wrong holds seen", self.wrong_holds),
         ];
         for (name, count) in rows {
             println!("{name:34}{count:>12}");
