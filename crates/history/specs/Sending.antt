@@ -37,6 +37,7 @@ acceptedBy s (pass p) = []
 abbrev pub takenOf : List ℕ → List Call → List Taken
 takenOf s cs = along (λ j s c. map (takenAt j) (acceptedBy s c)) 0 s cs
 
--- TxD and its driven mark in the outputs, one after another
+-- TxD and its driven mark in the outputs, one after another: of a run as it answers them, of a hold as the rules give
+-- them, which answers the last alone
 abbrev pub txdLevels : List ℕ → List Call → List ℕ
 txdLevels s cs = gathered (λ s c. map txdBits (effect s c .outputs)) s cs

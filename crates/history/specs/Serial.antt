@@ -33,7 +33,8 @@ serialPart s (pass p) = map event (clocksOf (effect s (pass p) .levels))
 abbrev pub serialParts : List ℕ → List Call → List Serial
 serialParts s cs = gathered serialPart s cs
 
--- what the serial side is answered: a number, a number and a read's value, TxD and its driven mark after a clock
+-- what the serial side is answered: a number, a number and a read's value, TxD and its driven mark after a clock (of a
+-- hold, which answers the last output alone, as the rules give them)
 pub data Answer : Type 0 where
   number : ℕ → Answer
   value : ℕ → ℕ → Answer
@@ -54,7 +55,7 @@ abbrev pub requestBits : List ℕ → ℕ
 requestBits s = requestsValue s % 8
 
 -- two histories from one serial device, with the same serial calls and resets in order and the same clocks and RxD
--- levels between them, however split into runs; what else is in them, queries too, and whose SPI is in which state, is
+-- levels between them, however split into runs and holds; what else is in them, queries too, and whose SPI is in which state, is
 -- free
 pub record Alike (d e : Device) (s t : List ℕ) (cs ds : List Call) : Type 0 where
   pub first : decodeOf s ≡ Accepted d

@@ -14,12 +14,13 @@ use Rattle.spi.specs.Control.{isEnabled, isMaster, modeOf, isModeFault}
 use Rattle.spi.specs.Means.{differs, withTransfer, withLeft, withMiso, withSck}
 use Rattle.spi.specs.Transfer.{isUnderWay, droppedOf}
 use Rattle.spi.specs.Unit.{outputOf, requestsOf}
-use Rattle.spi.specs.Clock.{masterOf, isSckEdge, presentedOf, selectedOf, slaveOf, byModeOf, clockOf}
+use Rattle.spi.specs.Clock.{masterOf, masterClock, isSckEdge, presentedOf, selectedOf, slaveOf, byModeOf, clockOf}
 use Rattle.spi.specs.Holding.{clockAt, heldOf, isPresented, slaveRests, masterRests, stepRests, isAtRest, staysMaster, waitsFor, countedOf, PassedOn}
 use Rattle.spi.specs.declared.clock.Levels.{Levels}
 use Rattle.spi.specs.declared.transfer.Transfer.{Transfer}
 use Rattle.spi.specs.declared.unit.Spi.{Spi}
 use Rattle.spi.proofs.BusLaws.{same-level}
+use Rattle.spi.proofs.MasterLaws.{stays-clock}
 use Rattle.spi.proofs.Progress.{none-under-way}
 
 dropped-rests : (t : Transfer) → isUnderWay t ≡ false → droppedOf t ≡ t
@@ -69,11 +70,11 @@ module _ (s : Spi) where
     rest-requests n h = ap requestsOf (rest-held n h)
 
     counts-one : staysMaster (s .control) (l .ss) ≡ true → 2 ≤ s .transfer .left .0 → clockOf s l ≡ countedOf s (l .sck) 1
-    unfolding staysMaster byModeOf masterOf
+    unfolding masterOf
     counts-one h two =
-        let on = both (isEnabled (s .control)) _ h in
-        let m = both (isMaster (s .control)) _ (on .1) in
-        rw (on .0, m .0, not-true (isModeFault (s .control) (l .ss)) (m .1), ne-eqb (s .transfer .left .0) 0 (λ q. omega arith), ne-eqb (s .transfer .left .0) 1 (λ q. omega arith))
+        let n : ℕ = s .transfer .left .0 in
+        let counts : masterClock s l ≡ countedOf s (l .sck) 1 = rw (ne-eqb n 0 (λ q. omega arith), ne-eqb n 1 (λ q. omega arith)) in
+        stays-clock s l h ∙ counts
 
 counts-held : (k : ℕ) (s : Spi) (l : Levels) → staysMaster (s .control) (l .ss) ≡ true → suc k < s .transfer .left .0
     → heldOf s l (suc k) ≡ countedOf s (l .sck) (suc k)

@@ -1,4 +1,4 @@
--- A clock of an SPI that is off, and of a master that keeps it.
+-- A clock of an SPI that is off, and of a master that stays one.
 use mathlib.Core.Bool.{Bool, true, false}
 use mathlib.Core.Path.{_≡_, refl, sym, ap, _∙_}
 use lib.Dec.{eqb}
@@ -7,6 +7,7 @@ use Rattle.choice.proofs.Picks.{split, both}
 use Rattle.spi.specs.Control.{isEnabled, isMaster, isInput, isModeFault, keepsMaster}
 use Rattle.spi.specs.Means.{withSck}
 use Rattle.spi.specs.Clock.{masterOf, masterClock, byModeOf, clockOf}
+use Rattle.spi.specs.Holding.{staysMaster}
 use Rattle.spi.specs.Unit.{outputOf}
 use Rattle.spi.specs.declared.clock.Levels.{Levels}
 use Rattle.spi.specs.declared.unit.Spi.{Spi}
@@ -20,12 +21,24 @@ unfolding outputOf
 off-output s ss off = rw off refl
 
 module _ (s : Spi) (l : Levels) where
-  pub keeps-clock : keepsMaster (s .control) ≡ true → clockOf s l ≡ masterClock s l
-  unfolding byModeOf keepsMaster isModeFault
-  keeps-clock h =
+  -- at this level of SS ..
+  pub stays-clock : staysMaster (s .control) (l .ss) ≡ true → clockOf s l ≡ masterClock s l
+  unfolding staysMaster byModeOf
+  stays-clock h =
       let on = both (isEnabled (s .control)) _ h in
       let master = both (isMaster (s .control)) _ (on .1) in
-      rw (on .0, master .0, not-true (isInput (s .control)) (master .1)) refl
+      rw (on .0, master .0, not-true (isModeFault (s .control) (l .ss)) (master .1))
+
+  -- .. or, with SS an output, at any
+  keeps-stays : keepsMaster (s .control) ≡ true → staysMaster (s .control) (l .ss) ≡ true
+  unfolding keepsMaster staysMaster isModeFault
+  keeps-stays h =
+      let on = both (isEnabled (s .control)) _ h in
+      let master = both (isMaster (s .control)) _ (on .1) in
+      rw (on .0, master .0, not-true (isInput (s .control)) (master .1))
+
+  pub keeps-clock : keepsMaster (s .control) ≡ true → clockOf s l ≡ masterClock s l
+  keeps-clock h = stays-clock (keeps-stays h)
 
   pub keeps-control : masterClock s l .control ≡ s .control
   unfolding masterOf

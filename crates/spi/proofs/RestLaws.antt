@@ -24,8 +24,9 @@ use Rattle.spi.specs.declared.transfer.Transfer.{Transfer}
 use Rattle.spi.specs.declared.unit.Spi.{Spi}
 use Rattle.spi.proofs.ClockLaws.{shownMiso, presented-as}
 use Rattle.spi.proofs.DivisorLaws.{half-of}
+use Rattle.spi.proofs.DropLaws.{mstr-cleared}
 use Rattle.spi.proofs.HoldingLaws.{rest-clock}
-use Rattle.spi.proofs.MasterLaws.{off-clock, keeps-control}
+use Rattle.spi.proofs.MasterLaws.{stays-clock, keeps-control}
 use Rattle.spi.proofs.ValidLaws.{valid-clock}
 
 no-difference : (a : Bool) → differs a a ≡ false
@@ -63,17 +64,10 @@ record Staying (l : Levels) (s : Spi) : Type 0 where
   stays : staysMaster (s .control) (l .ss) ≡ true
 
 module _ (l : Levels) (s : Spi) where
-  stays-clock : staysMaster (s .control) (l .ss) ≡ true → clockOf s l ≡ masterClock s l
-  unfolding staysMaster byModeOf
-  stays-clock h =
-      let on = both (isEnabled (s .control)) _ h in
-      let m = both (isMaster (s .control)) _ (on .1) in
-      rw (on .0, m .0, not-true (isModeFault (s .control) (l .ss)) (m .1))
-
   keeps : Staying l s → Staying l (clockOf s l)
   keeps v = record {
     valid = valid-clock s l (v .valid);
-    stays = ap (λ (c : Control). staysMaster c (l .ss)) (ap (λ (t : Spi). t .control) (stays-clock (v .stays)) ∙ keeps-control s l) ∙ v .stays;
+    stays = ap (λ (c : Control). staysMaster c (l .ss)) (ap (λ (t : Spi). t .control) (stays-clock s l (v .stays)) ∙ keeps-control s l) ∙ v .stays;
   }
 
   -- with no edge due only the level of SCK can keep it from rest
@@ -90,7 +84,7 @@ module _ (l : Levels) (s : Spi) where
   nears v r =
       let n : ℕ = s .transfer .left .0 in
       let Nearer : Spi → Type 0 = λ t. masterFar l (withSck t (l .sck)) < masterFar l s in
-      subst (λ (t : Spi). masterFar l t < masterFar l s) (sym (stays-clock (v .stays)))
+      subst (λ (t : Spi). masterFar l t < masterFar l s) (sym (stays-clock s l (v .stays)))
       (pick-ind Nearer (eqb n 0) _ _
       (λ z. rw (z, sck-differs (v .stays) (eqb-true n 0 z) r, no-difference (l .sck)) (lit< tt))
       (λ z. pick-ind Nearer (eqb n 1) _ _
@@ -117,9 +111,7 @@ abbrev isDriving : Control → Bool
 isDriving c = pick (isEnabled c) (isMaster c) false
 
 faulted-slave : (c : Control) → isDriving (withoutMstr c) ≡ false
-faulted-slave c =
-    let none : isMaster (withoutMstr c) ≡ false = ne-eqb (withoutMstr c .spcr / 16 % 2) 1 (λ q. omega (arith, q)) in
-    split (isEnabled (withoutMstr c)) (λ on. rw (on, none)) (λ off. rw off)
+faulted-slave c = split (isEnabled (withoutMstr c)) (λ on. rw (on, mstr-cleared c)) (λ off. rw off)
 
 module _ (s : Spi) (l : Levels) where
   slave-after : staysMaster (s .control) (l .ss) ≡ false → isDriving (clockOf s l .control) ≡ false

@@ -8,14 +8,17 @@ use native.Mathlib.Omega.{arith}
 use lib.Dec.{eqb, ltb, leb, lit<}
 use borrow.Author.Tests.{eqb-true, ltb-true, ltb-false, leb-true, leb-false}
 use Rattle.choice.specs.Pick.{pick}
+use Rattle.choice.specs.Times.{times}
 use Rattle.choice.proofs.Picks.{pick-ind, split, clash}
 use Rattle.choice.proofs.Settling.{Settling, settles}
 use Rattle.frame.specs.Format.{samples, firstVote, wordBits, lastBit}
 use Rattle.frame.specs.Vote.{majorityOf}
 use Rattle.frame.specs.declared.format.Format.{Format}
+use Rattle.frame.specs.declared.format.Size.the-variants.{Nine}
+use Rattle.frame.specs.declared.format.Parity.the-variants.{Even}
 use Rattle.frame.proofs.FormatLaws.{samples-half, samples-range, first-vote-range, word-bits-range, stop-bits-range}
 use Rattle.usart.specs.Baud.{ticksIn}
-use Rattle.usart.specs.Sender.{isVacant, isResting, movedFrom, steppedOf, senderOf}
+use Rattle.usart.specs.Sender.{isVacant, isResting, begun, movedFrom, steppedOf, senderOf}
 use Rattle.usart.specs.Sampler.{idleOf, castOf, nextBitOf, shiftedOf, spentOf, decidedOf, votedOf, sampledOf, samplerOf}
 use Rattle.usart.specs.Receiver.{listenedOf}
 use Rattle.usart.specs.Holding.{heldOf, heldSender, listenedAt, heldReceiver}
@@ -198,6 +201,14 @@ module _ (f : Format) (l : Bool) where
       record { keeps = λ x. valid-listened f rxen x l; stays = λ x. receiver-rests rxen f x l; nears = receiver-nears rxen } in
       settles (listenedAt rxen f l) rests w n r v (omega (arith, h, receiver-far rxen r))
 
+-- and no sooner: two frames of nine data bits, parity and two stop bits, one just begun and one in the buffer
+abbrev longest : Format
+longest = record { size = Nine; parity = Even; usbs = true; u2x = false }
+
+pub not-at-415 : senderRests (heldSender longest (record { buffer = Full 0; shifter = Sending (begun longest 0); txc = false }) 415) ≡ false
+unfolding senderRests times steppedOf
+not-at-415 = refl
+
 -- tick 416 comes in time
 many-ticks : (b : Baud) (n : ℕ) → restingFrom b ≤ n → 416 ≤ ticksIn b n
 many-ticks b n h =
@@ -215,6 +226,6 @@ comes-to-rest u l n v h =
     ap (λ (w : Usart). isAtRest w l) (held-parts n u l)
     ∙ rw (sender-settles (u .format) (u .sender) k (v .sender) m) (receiver-settles (u .format) l (u .control .rxen) (u .receiver) k (v .receiver) m)
 
--- .. which comes soonest at UBRR 0, and latest at 4095
+-- .. which comes within 416 of the longest turns of the counter
 pub resting-range : (b : Baud) → ValidBaud b → restingFrom b ≤ 416 * 4096
 resting-range b v = omega (arith, v .ubrr, v .left)
