@@ -2,8 +2,8 @@
 
    The rig lends a device as a record of 64 bytes and calls the functions below. Each answers a number (WARPMAGPIE_DONE
    or a refusal). A refusal leaves every byte of record and outputs as it was, and puts 0 where a value is answered; 9
-   and 10, which a replay answers, alone change the record. Two further calls, at the end, choose a baud setting and
-   take no record.
+   and 10, where a replay answers them, alone change the record. Four further calls, at the end, take no record: two
+   write and shrink the text of a trace, two choose a baud setting.
 
    What C has to keep: a pointer points to as many bytes as its length says (it may be null where the length is 0), and
    the memory of one argument does not overlap that of another. Nothing else is asked of any argument. The record's
@@ -25,7 +25,7 @@ extern "C" {
 /* Of header, archive and pkg-config file. MAJOR rises where a rig may have to change its code or drop its stored
    records, MINOR where there is more than before, PATCH with any other change. WARPMAGPIE_VERSION is for #if. */
 #define WARPMAGPIE_VERSION_MAJOR 2
-#define WARPMAGPIE_VERSION_MINOR 3
+#define WARPMAGPIE_VERSION_MINOR 4
 #define WARPMAGPIE_VERSION_PATCH 0
 #define WARPMAGPIE_VERSION \
     (WARPMAGPIE_VERSION_MAJOR * 10000 + WARPMAGPIE_VERSION_MINOR * 100 + WARPMAGPIE_VERSION_PATCH)
@@ -33,7 +33,7 @@ extern "C" {
 #define WARPMAGPIE_RECORD_LEN 64
 
 /* Answers. Where more than one refusal applies, the order is 5, 1, 2, 3, 4; for a run 5, 6, 7; for a hold 5, 7; for
-   a vector 5, 1, 8; for a replay 5, 9, 10. Number 12 is kept for a request to come. */
+   a vector 5, 1, 8; for a replay 5, 9, 10; for a trace written or shrunk 9, 12. */
 enum warpmagpie_answer {
     WARPMAGPIE_DONE = 0,
     WARPMAGPIE_REFUSED_UNKNOWN = 1,     /* no such register address or vector */
@@ -44,9 +44,10 @@ enum warpmagpie_answer {
     WARPMAGPIE_REFUSED_LENGTH = 6,      /* output slice not as long as the level slice */
     WARPMAGPIE_REFUSED_LEVEL = 7,       /* a level byte with bit 5, 6 or 7 set */
     WARPMAGPIE_REFUSED_UNREQUESTED = 8, /* vector taken without its request */
-    WARPMAGPIE_REFUSED_MALFORMED = 9,   /* text of a trace malformed */
+    WARPMAGPIE_REFUSED_MALFORMED = 9,   /* text or list of a trace malformed */
     WARPMAGPIE_REFUSED_DIFFERENT = 10,  /* a call of a trace answered otherwise than recorded */
-    WARPMAGPIE_REFUSED_RANGE = 11       /* clock not 1 to 20,000,000 Hz, or rate not 1 to 2,500,000 */
+    WARPMAGPIE_REFUSED_RANGE = 11,      /* clock not 1 to 20,000,000 Hz, or rate not 1 to 2,500,000 */
+    WARPMAGPIE_REFUSED_ROOM = 12        /* text longer than the buffer for it */
 };
 
 /* Register addresses, in data space. */
@@ -192,6 +193,28 @@ uint8_t warpmagpie_requests(const uint8_t *record, size_t record_len, uint8_t *r
    than recorded: *line is the line of the first such call, and the record is as after that call. Answers 5, with *line
    0, if record_len is not 64. */
 uint8_t warpmagpie_replay(uint8_t *record, size_t record_len, const uint8_t *text, size_t text_len, size_t *line);
+
+/* The two calls below write a trace's text into a buffer that is lent, and put into *length how many bytes it has;
+   every byte of the buffer past it keeps what it held. They answer 0, or 9 as is said with each, or else 12 if the text
+   is longer than the buffer. After 9 or 12 every byte of the buffer is as it was, and *length is 0. */
+
+#define WARPMAGPIE_TRACE_ITEM_LEN 8
+
+/* Writes the text of a list of items, eight bytes each, in their order; an empty list's text is the first line alone.
+       byte 0        'W', 'R', 'A' or 'C'
+       byte 1        the number that was answered; for 'C' the level byte, 0 to 31
+       bytes 2, 3    the address or the vector, 0 to 255, low byte first; for 'C' 0
+       bytes 4 to 7  the value, 0 to 255, or the clocks, 1 to 4,294,967,295, low byte first; for 'A' 0
+   Answers 9 if items_len is no multiple of eight, or a byte of an item is other than is said here. A replay, a shrink
+   or any reader of the text finds exactly these items. */
+uint8_t warpmagpie_trace_write(const uint8_t *items, size_t items_len, uint8_t *text, size_t text_len, size_t *length);
+
+/* Writes the shortest text with the same calls and the same clocks, in the same order. Neighbouring C lines with equal
+   levels become one or, past 4,294,967,295 clocks, as many full ones as go and the rest, if any, in a last one. Its
+   replay ends in the same record with the same number; a line that is answered with 10 may be another. Answers 9 if the
+   text is malformed, as replay does. No text comes out longer than it went in. */
+uint8_t warpmagpie_trace_shrink(const uint8_t *text, size_t text_len, uint8_t *shrunk, size_t shrunk_len,
+                                size_t *length);
 
 /* The two calls below choose a baud setting. They take no record, and have no loop. clock_hz is 1 to 20,000,000, rate
    1 to 2,500,000 baud; any other is answered 11, with 0 in every answer. u2x is 0 for normal speed; any other byte is

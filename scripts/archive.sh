@@ -9,13 +9,13 @@ if [ -e "$archive" ] && [ -z "$(find crates crates.txt -newer "$archive" -print 
 echo "archive: proving and building, which takes some minutes the first time" >&2
 mkdir -p target
 rm -f "$archive"
-for crate in warpmagpie holding tracing; do
+for crate in warpmagpie holding tracing recording; do
     rt staticlib $crate >target/staticlib.log 2>&1 || { cat target/staticlib.log; exit 1; }
 done
 made=$(mktemp -d)
 trap 'rm -rf "$made"' EXIT
 mv "$archive" "$made/whole.a"
-for crate in holding tracing; do
+for crate in holding tracing recording; do
     (cd "$made" && ar x "$OLDPWD/target/staticlib/lib$crate.a" && ar r whole.a "$crate.o") >target/staticlib.log 2>&1 ||
         { cat target/staticlib.log; exit 1; }
 done

@@ -45,6 +45,8 @@ mod line_damage;
 mod long;
 #[path = "replay/numbers.rs"]
 mod numbers;
+#[path = "replay/otherwise.rs"]
+mod otherwise;
 #[path = "replay/prefixes.rs"]
 mod prefixes;
 #[path = "compare/random.rs"]
@@ -57,6 +59,8 @@ mod records;
 mod right;
 #[path = "replay/scenes.rs"]
 mod scenes;
+#[path = "replay/shown.rs"]
+mod shown;
 #[path = "replay/single_bytes.rs"]
 mod single_bytes;
 #[path = "replay/tally.rs"]

@@ -2,7 +2,7 @@
 ghost use mathlib.Core.Path.{_≡_};
 ghost use Rattle.answer.specs.Number.{numberOf};
 
-// Document 01's refusals, and document 02's, of which 12 comes with the request that first answers it.
+// Document 01's refusals, and document 02's from 9 on.
 pub enum Refusal {
     // No such register address or vector.
     Unknown,
@@ -20,12 +20,14 @@ pub enum Refusal {
     Level,
     // A vector taken without its request.
     Unrequested,
-    // A trace whose text is malformed.
+    // A trace whose text is malformed, or a list of items that has no text.
     Malformed,
     // A call of a trace that was answered otherwise than recorded.
     Different,
     // A clock or a rate out of its range, where a baud setting is asked for.
     Range,
+    // A text that is longer than the buffer for it.
+    Room,
 }
 
 impl Refusal {
@@ -45,6 +47,7 @@ impl Refusal {
             Refusal::Malformed => 9,
             Refusal::Different => 10,
             Refusal::Range => 11,
+            Refusal::Room => 12,
         }
     }
 }

@@ -1,4 +1,4 @@
--- The three laws of `digitsOf` that everything else uses: one digit, one digit more, and induction by digits.
+-- The laws of `digitsOf` that everything else uses: one digit, one digit more (and so the last), induction by digits.
 use Prim.Native.Nat.{ℕ, zero, suc, _+_, _*_, _/_, _%_, _<_, _≤_}
 use mathlib.Core.Path.{_≡_, ap, sym, subst, _∙_}
 use mathlib.Core.List.{List, [], _∷_, _++_}
@@ -50,3 +50,9 @@ module _ (P : ℕ → Type 0) (one : (d : ℕ) → d < 10 → P d) (more : (v d 
 
   pub digits-ind : (n : ℕ) → P n
   digits-ind n = below (suc n) n (omega arith)
+
+-- the digits but the last, and the last
+pub digits-last : (n : ℕ) → 10 ≤ n → digitsOf n ≡ digitsOf (n / 10) ++ ((48 + n % 10) ∷ [])
+digits-last n h =
+    let s : 10 * (n / 10) + n % 10 ≡ n = omega arith in
+    ap digitsOf (sym s) ∙ digits-more (n / 10) (n % 10) (omega arith) (omega arith)

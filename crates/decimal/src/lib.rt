@@ -1,4 +1,8 @@
-// Decimals in a text, without leading zeros. It knows nothing of what the numbers are for.
+// Decimals in a text, without leading zeros: read, and written. It knows nothing of what the numbers are for.
+mod digits;
+
+pub use digits::digit_count;
+pub use digits::put_number;
 ghost use mathlib.Core.Path.{_≡_};
 ghost use mathlib.Core.Bool.{true};
 ghost use Prim.Native.Nat.{_≤_};

@@ -6,3 +6,13 @@ pub mod TextMeaning
 pub mod ContentsLaws
 pub mod Reading
 pub mod LineCount
+pub mod PutLaws
+pub mod FillLaws
+pub mod EntryLaws
+pub mod ListMeaning
+pub mod ShrinkLaws
+pub mod OutLaws
+pub mod TurnLaws
+pub mod PassLaws
+pub mod SizeLaws
+pub mod Promised

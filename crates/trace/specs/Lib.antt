@@ -2,3 +2,9 @@ pub mod Text
 pub mod Line
 pub mod Contents
 pub mod Meaning
+pub mod Listing
+pub mod Putting
+pub mod Shrinking
+pub mod Turning
+pub mod Filling
+pub mod Promises

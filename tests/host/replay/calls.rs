@@ -3,6 +3,7 @@
 use crate::before::random_before;
 use crate::random::Random;
 use crate::replay::{replay, After};
+use crate::shown::shown;
 use crate::tally::Tally;
 
 /// What stands in record and line before the call.
@@ -12,9 +13,6 @@ pub struct Before {
 }
 
 pub type Program = fn(&Before, &[u8]) -> After;
-
-/// A longer text is shown by its ends only.
-const SHOWN: usize = 4_000;
 
 /// Compares on 64 bytes of any kind. Answers what model and program both say.
 pub fn compare(
@@ -72,14 +70,6 @@ fn difference(before: &Before, text: &[u8], given: &After, expected: &After) -> 
         row("archive", given),
         row("model  ", expected)
     )
-}
-
-pub fn shown(text: &[u8]) -> String {
-    if text.len() <= SHOWN {
-        return text.escape_ascii().to_string();
-    }
-    let (head, tail) = (&text[..SHOWN / 2], &text[text.len() - SHOWN / 2..]);
-    format!("{} .. {}", head.escape_ascii(), tail.escape_ascii())
 }
 
 fn hex(bytes: &[u8]) -> String {

@@ -1,10 +1,11 @@
 //! Traces of random histories on the model: done, and the record is that of the history's device.
 
-use crate::calls::{compare, expect, shown, Program};
+use crate::calls::{compare, expect, Program};
 use crate::history::History;
 use crate::model::record::encode;
 use crate::random::Random;
 use crate::scenes::{random_history, send_slowly};
+use crate::shown::shown;
 use crate::tally::Tally;
 use crate::text::write;
 use crate::trace;

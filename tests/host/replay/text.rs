@@ -15,7 +15,7 @@ pub fn write(items: &[Item]) -> Vec<u8> {
     text
 }
 
-fn line(item: &Item) -> String {
+pub fn line(item: &Item) -> String {
     match item {
         Item::Write {
             address,

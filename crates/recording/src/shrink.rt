@@ -1,0 +1,23 @@
+// The shortest text with the same clocks and calls.
+use trace::Filled;
+ghost use mathlib.Core.Path.{_≡_};
+ghost use Rattle.trace.specs.Filling.{bufferShrunk};
+ghost use Rattle.recording.specs.Calls.{shrinkAnswer, shrinkLength};
+
+#[no_mangle]
+pub extern "C" fn warpmagpie_trace_shrink(text: &[u8], shrunk: &mut [u8], size: &mut usize) -> u8
+    ensures { λ r. ⌜ r ≡ shrinkAnswer (now (text .entry)) (now (shrunk .entry)) ⌝ }
+    ensures { λ _. ⌜ now (size .exit) ≡ shrinkLength (now (text .entry)) (now (shrunk .entry)) ⌝ }
+    ensures { λ _. ⌜ now (shrunk .exit) ≡ bufferShrunk (now (text .entry)) (now (shrunk .entry)) ⌝ }
+{
+    match trace::shrink(text, shrunk) {
+        Filled::Text(n) => {
+            *size = n;
+            0
+        }
+        Filled::Refused(r) => {
+            *size = 0;
+            r.number()
+        }
+    }
+}

@@ -1,0 +1,25 @@
+//! The means by which wrong programs are made, with nothing made wrong: no part may see a difference, so that a wrong
+//! program is seen for what is wrong with it.
+
+use crate::calls::Calls;
+use crate::means::{SHRINKER, WRITER};
+use crate::tally::Tally;
+use crate::PARTS;
+
+pub const RIGHT: Calls = Calls {
+    write: &|before| WRITER.write(before),
+    shrink: &|before| SHRINKER.shrink(before),
+};
+
+/// One round in so many is done.
+const FEWER: u64 = 50;
+
+pub fn is_not_seen(seed: u64) -> Result<(), String> {
+    for part in PARTS {
+        let rounds = part.rounds.div_ceil(FEWER);
+        let mut random = part.random(seed);
+        (part.run)(&RIGHT, rounds, &mut random, &mut Tally::default())
+            .map_err(|text| format!("{}, with nothing wrong: {text}", part.name))?;
+    }
+    Ok(())
+}
