@@ -7,6 +7,7 @@ use native.Mathlib.Omega.{arith}
 use lib.Dec.{eqb, ltb, leb}
 use lib.IntN.{pos}
 use lib.ListN.{length}
+use lib.Pow.{areBytes}
 use borrow.Author.Tests.{eq-eqb, ne-eqb, eqb-true, lt-ltb, le-ltb, ltb-true, ltb-false, leb-true, leb-false}
 use Rattle.choice.specs.Pick.{pick}
 use Rattle.choice.proofs.Picks.{split, clash}
@@ -17,10 +18,15 @@ use Rattle.planner.specs.declared.outcome.Checked.{Checked}
 use Rattle.planner.specs.declared.outcome.Checked.the-variants.{Told, Refused as Untold}
 use Rattle.planner.proofs.PlanningLaws.{plans, checks, refuses}
 use Rattle.trace.specs.Contents.{contentsOf}
+use Rattle.trace.specs.Filling.{filledOf, bufferOf, bufferWritten, isWell, bufferShrunk}
+use Rattle.trace.specs.Listing.{Listing, listOf, listingOf}
 use Rattle.trace.specs.Meaning.{IsText}
+use Rattle.trace.specs.Shrinking.{shrunkOf, shrunkText}
+use Rattle.trace.specs.Text.{AllInRange, textOf}
 use Rattle.trace.specs.declared.item.Item.{Item}
 use Rattle.trace.specs.declared.text.Check.{Check}
 use Rattle.trace.specs.declared.text.Check.the-variants.{WellFormed, Malformed}
+use Rattle.trace.proofs.ListMeaning.{lists}
 use Rattle.trace.proofs.Reading.{reads}
 use Rattle.playback.specs.Replay.{stepOf, ended, playedFrom, replayBy, replayOf, outcomeNumber}
 use Rattle.playback.specs.declared.replaying.Outcome.the-variants.{Refused as Unplayed}
@@ -56,9 +62,10 @@ use Rattle.record.proofs.Round.{record-decode}
 use Rattle.warpmagpie.specs.Calls.{resetOn, writeOn, readOn, readAnswer, readValue, vectorOn, runOn, outputsOn, runAnswer, recordAfterRun, outputsAfterRun, requestsAnswerOn, requestsAnswer, requestsValueOn, requestsValue}
 use Rattle.holding.specs.Hold.{holdIn, holdOn, holdAnswer, holdOutput}
 use Rattle.tracing.specs.Replay.{replayAnswer}
+use Rattle.recording.specs.Calls.{filledNumber, filledLength, traceWriteAnswer, traceWriteLength, traceShrinkAnswer, traceShrinkLength}
 use Rattle.warpmagpie.specs.Baud.{planAnswer, planUbrr, planTenths, checkAnswer, checkAccepted}
 use Rattle.history.specs.Call.{run, hold, query, Call, reset, write, read, vector, pass, effect, recordAfter, deviceIn}
-use Rattle.history.specs.Table.{isNoDevice, isNoRecord, isWrongLength, isNoPlace, isNowhere, isNoVector, reservedAt, unmodelledAt, underWayAt, areUneven, isHighLevel, hasHighLevel, isUnrequested, isBad, isMalformed, hasDifferent, isDifferent, isOutOfRange, Numbers}
+use Rattle.history.specs.Table.{isNoDevice, isNoRecord, isWrongLength, isNoPlace, isNowhere, isNoVector, reservedAt, unmodelledAt, underWayAt, areUneven, isHighLevel, hasHighLevel, isUnrequested, isBad, isMalformed, isNoList, hasDifferent, isDifferent, isOutOfRange, isLonger, Numbers}
 
 -- writes
 write-in : (d : Device) (p : Place) (v : ℕ) → v < 256
@@ -199,6 +206,37 @@ malformed-table : (text : List ℕ)
 malformed-table text =
     (λ b is w. clash b (ap isBad (reads text .found is w .0)), bad-by text (contentsOf text .check) refl)
 
+-- .. and of a list
+no-list : (list : List ℕ) → areBytes list ≡ true → (b : Bool) → listingOf list .sound ≡ b → ((is : List Item) → AllInRange is → list ≡ listOf is → ⊥)
+    → not b ≡ true
+no-list list w true e n = let t = lists list w .taken e in absurd (n (listingOf list .items) (t .0) (t .1))
+no-list list w false e n = refl
+
+no-list-table : (list : List ℕ) → areBytes list ≡ true
+    → (isNoList list ≡ true → (is : List Item) → AllInRange is → list ≡ listOf is → ⊥)
+    × (((is : List Item) → AllInRange is → list ≡ listOf is → ⊥) → isNoList list ≡ true)
+no-list-table list w =
+    (λ b is h e. clash b (ap (λ (r : Listing). not (r .sound)) (lists list w .found is h e)), no-list list w (listingOf list .sound) refl)
+
+-- a text in a lent buffer: 9 before 12
+filled-table : (sound : Bool) (is : List Item) (buffer : List ℕ)
+    → filledNumber (filledOf sound is (length buffer)) ≡ pick (not sound) 9 (pick (isLonger (textOf is) buffer) 12 0)
+unfolding filledOf
+filled-table false is buffer = refl
+filled-table true is buffer =
+    split (leb (length (textOf is)) (length buffer))
+    (λ h. rw (h, le-ltb (length buffer) (length (textOf is)) (leb-true (length (textOf is)) (length buffer) h)))
+    (λ h. rw (h, lt-ltb (length buffer) (length (textOf is)) (leb-false (length (textOf is)) (length buffer) h)))
+
+well-bad : (c : Check) → not (isWell c) ≡ isBad c
+well-bad WellFormed = refl
+well-bad (Malformed line) = refl
+
+shrink-table : (text buffer : List ℕ) → traceShrinkAnswer text buffer ≡ pick (isMalformed text) 9 (pick (isLonger (shrunkText text) buffer) 12 0)
+shrink-table text buffer =
+    filled-table (isWell (contentsOf text .check)) (shrunkOf (contentsOf text .items)) buffer
+    ∙ ap (λ (b : Bool). pick b 9 (pick (isLonger (shrunkText text) buffer) 12 0)) (well-bad (contentsOf text .check))
+
 -- the baud setting: out of range by the four tests is not in range by theirs
 least-one : (n : ℕ) → eqb n 0 ≡ not (leb 1 n)
 least-one n =
@@ -256,6 +294,9 @@ numbered s = record {
   report = report-table (decodeOf s);
   malformed = malformed-table;
   replay = replay-table s;
+  noList = no-list-table;
+  traceWrite = λ list buffer. filled-table (listingOf list .sound) (listingOf list .items) buffer;
+  traceShrink = shrink-table;
   plan = plan-table;
   check = check-table;
 }
@@ -305,7 +346,21 @@ no-report NoDevice f = refl
 pub refused-report : (s : List ℕ) → (requestsAnswer s ≡ 0 → ⊥) → requestsValue s ≡ 0
 refused-report s f = no-report (decodeOf s) f
 
--- .. and so do a refused planner and a refused check
+-- a trace that is not written or not shrunk leaves its buffer untouched and answers the length 0
+not-filled : (sound : Bool) (is : List Item) (buffer : List ℕ) → (filledNumber (filledOf sound is (length buffer)) ≡ 0 → ⊥)
+    → (bufferOf sound is buffer ≡ buffer) × (filledLength (filledOf sound is (length buffer)) ≡ 0)
+unfolding filledOf bufferOf
+not-filled false is buffer f = (refl, refl)
+not-filled true is buffer f =
+    split (leb (length (textOf is)) (length buffer)) (λ h. absurd (f (rw h))) (λ h. rw h (refl, refl))
+
+pub refused-write : (list buffer : List ℕ) → (traceWriteAnswer list buffer ≡ 0 → ⊥) → (bufferWritten list buffer ≡ buffer) × (traceWriteLength list buffer ≡ 0)
+refused-write list = not-filled (listingOf list .sound) (listingOf list .items)
+
+pub refused-shrink : (text buffer : List ℕ) → (traceShrinkAnswer text buffer ≡ 0 → ⊥) → (bufferShrunk text buffer ≡ buffer) × (traceShrinkLength text buffer ≡ 0)
+refused-shrink text = not-filled (isWell (contentsOf text .check)) (shrunkOf (contentsOf text .items))
+
+-- .. and so do a refused planner and a refused check, of their values
 no-plan : (p : Planned) → (planNumberOf p ≡ 0 → ⊥) → (ubrrOf p ≡ 0) × (tenthsOf p ≡ pos 0)
 no-plan (Settled u e) f = absurd (f refl)
 no-plan (Unplanned r) f = (refl, refl)

@@ -1,12 +1,13 @@
 -- The table of numbers, document 01's and what document 02 adds: for each number its condition, by itself, and for each
 -- exported call its numbers in the order given there, of which the first whose condition holds is the answer, else 0.
--- The record is any bytes; the last two calls take none.
+-- The record is any bytes; the last four calls take none.
 use Prim.Native.Nat.{ℕ, _/_, _<_}
 use mathlib.Core.Bool.{Bool, true, false, not, _&&_, _||_}
 use mathlib.Core.List.{List, [], _∷_}
 use mathlib.Core.Path.{_≡_}
 use lib.Dec.{eqb, ltb}
 use lib.ListN.{length}
+use lib.Pow.{areBytes}
 use Rattle.choice.specs.Pick.{pick}
 use Rattle.usart.specs.Unit.{txcRequested}
 use Rattle.usart.specs.Refusing.{isReserved, isUnmodelled, isUnderWay as isFrameUnderWay}
@@ -18,7 +19,10 @@ use Rattle.device.specs.declared.address.Place.the-variants.{Serial, Spi, Nowhe
 use Rattle.device.specs.Unit.{resetDevice}
 use Rattle.device.specs.declared.unit.Device.{Device}
 use Rattle.trace.specs.Contents.{contentsOf}
+use Rattle.trace.specs.Listing.{listOf, listingOf}
 use Rattle.trace.specs.Meaning.{IsText}
+use Rattle.trace.specs.Shrinking.{shrunkText}
+use Rattle.trace.specs.Text.{AllInRange, textOf}
 use Rattle.trace.specs.declared.item.Item.{Item}
 use Rattle.trace.specs.declared.text.Check.{Check}
 use Rattle.trace.specs.declared.text.Check.the-variants.{WellFormed, Malformed}
@@ -31,6 +35,7 @@ use Rattle.record.specs.declared.codec.Decoded.the-variants.{Accepted, Refused}
 use Rattle.warpmagpie.specs.Calls.{resetAnswer, writeAnswer, readAnswer, vectorAnswer, runAnswer, requestsAnswer}
 use Rattle.holding.specs.Hold.{holdAnswer}
 use Rattle.tracing.specs.Replay.{replayAnswer}
+use Rattle.recording.specs.Calls.{traceWriteAnswer, traceShrinkAnswer}
 use Rattle.warpmagpie.specs.Baud.{planAnswer, checkAnswer}
 use Rattle.history.specs.Call.{deviceOf}
 
@@ -102,6 +107,10 @@ isBad (Malformed line) = true
 abbrev pub isMalformed : List ℕ → Bool
 isMalformed text = isBad (contentsOf text .check)
 
+-- .. and a list with an item outside the ranges (M-109); `Numbers` has that by itself too
+abbrev pub isNoList : List ℕ → Bool
+isNoList list = not (listingOf list .sound)
+
 -- 10: a `W`, `R` or `A` answered otherwise than recorded
 unfoldable pub hasDifferent : Device → List Item → Bool
 hasDifferent d [] = false
@@ -114,7 +123,12 @@ isDifferent text = hasDifferent resetDevice (contentsOf text .items)
 abbrev pub isOutOfRange : ℕ → ℕ → Bool
 isOutOfRange clock rate = (eqb clock 0 || ltb 20000000 clock) || (eqb rate 0 || ltb 2500000 rate)
 
--- order: 5, 1, 2, 3, 4; for a run 5, 6, 7; for a hold 5, 7; for a vector 5, 1, 8; for a replay 5, 9, 10
+-- 12: text longer than the buffer for it (M-109)
+abbrev pub isLonger : List ℕ → List ℕ → Bool
+isLonger text buffer = ltb (length buffer) (length text)
+
+-- order: 5, 1, 2, 3, 4; for a run 5, 6, 7; for a hold 5, 7; for a vector 5, 1, 8; for a replay 5, 9, 10; for a trace
+-- written or shrunk 9, 12
 pub record Numbers (s : List ℕ) : Type 0 where
   pub noRecord : (isNoRecord s ≡ true → NoRecord s) × (NoRecord s → isNoRecord s ≡ true)
   pub reset : resetAnswer s ≡ pick (isWrongLength s) 5 0
@@ -134,5 +148,12 @@ pub record Numbers (s : List ℕ) : Type 0 where
   pub malformed : (text : List ℕ)
       → (isMalformed text ≡ true → (is : List Item) → IsText text is → ⊥) × (((is : List Item) → IsText text is → ⊥) → isMalformed text ≡ true)
   pub replay : (text : List ℕ) → replayAnswer s text ≡ pick (isWrongLength s) 5 (pick (isMalformed text) 9 (pick (isDifferent text) 10 0))
+  pub noList : (list : List ℕ) → areBytes list ≡ true
+      → (isNoList list ≡ true → (is : List Item) → AllInRange is → list ≡ listOf is → ⊥)
+      × (((is : List Item) → AllInRange is → list ≡ listOf is → ⊥) → isNoList list ≡ true)
+  pub traceWrite : (list buffer : List ℕ)
+      → traceWriteAnswer list buffer ≡ pick (isNoList list) 9 (pick (isLonger (textOf (listingOf list .items)) buffer) 12 0)
+  pub traceShrink : (text buffer : List ℕ)
+      → traceShrinkAnswer text buffer ≡ pick (isMalformed text) 9 (pick (isLonger (shrunkText text) buffer) 12 0)
   pub plan : (clock rate u2x : ℕ) → planAnswer clock rate u2x ≡ pick (isOutOfRange clock rate) 11 0
   pub check : (clock rate u2x ubrr : ℕ) → checkAnswer clock rate u2x ubrr ≡ pick (isOutOfRange clock rate) 11 0

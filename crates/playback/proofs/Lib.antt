@@ -1,3 +1,4 @@
 pub mod Playing
 pub mod ReplayLaws
+pub mod AlikeLaws
 pub mod Examples

@@ -17,14 +17,14 @@ abbrev pub filledLength : Filled → ℕ
 filledLength (Text n) = n
 filledLength (Refused r) = 0
 
-abbrev pub writeAnswer : List ℕ → List ℕ → ℕ
-writeAnswer list buffer = filledNumber (writtenBy list (length buffer))
+abbrev pub traceWriteAnswer : List ℕ → List ℕ → ℕ
+traceWriteAnswer list buffer = filledNumber (writtenBy list (length buffer))
 
-abbrev pub writeLength : List ℕ → List ℕ → ℕ
-writeLength list buffer = filledLength (writtenBy list (length buffer))
+abbrev pub traceWriteLength : List ℕ → List ℕ → ℕ
+traceWriteLength list buffer = filledLength (writtenBy list (length buffer))
 
-abbrev pub shrinkAnswer : List ℕ → List ℕ → ℕ
-shrinkAnswer text buffer = filledNumber (shrunkBy text (length buffer))
+abbrev pub traceShrinkAnswer : List ℕ → List ℕ → ℕ
+traceShrinkAnswer text buffer = filledNumber (shrunkBy text (length buffer))
 
-abbrev pub shrinkLength : List ℕ → List ℕ → ℕ
-shrinkLength text buffer = filledLength (shrunkBy text (length buffer))
+abbrev pub traceShrinkLength : List ℕ → List ℕ → ℕ
+traceShrinkLength text buffer = filledLength (shrunkBy text (length buffer))

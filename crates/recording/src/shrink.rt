@@ -2,12 +2,12 @@
 use trace::Filled;
 ghost use mathlib.Core.Path.{_≡_};
 ghost use Rattle.trace.specs.Filling.{bufferShrunk};
-ghost use Rattle.recording.specs.Calls.{shrinkAnswer, shrinkLength};
+ghost use Rattle.recording.specs.Calls.{traceShrinkAnswer, traceShrinkLength};
 
 #[no_mangle]
 pub extern "C" fn warpmagpie_trace_shrink(text: &[u8], shrunk: &mut [u8], size: &mut usize) -> u8
-    ensures { λ r. ⌜ r ≡ shrinkAnswer (now (text .entry)) (now (shrunk .entry)) ⌝ }
-    ensures { λ _. ⌜ now (size .exit) ≡ shrinkLength (now (text .entry)) (now (shrunk .entry)) ⌝ }
+    ensures { λ r. ⌜ r ≡ traceShrinkAnswer (now (text .entry)) (now (shrunk .entry)) ⌝ }
+    ensures { λ _. ⌜ now (size .exit) ≡ traceShrinkLength (now (text .entry)) (now (shrunk .entry)) ⌝ }
     ensures { λ _. ⌜ now (shrunk .exit) ≡ bufferShrunk (now (text .entry)) (now (shrunk .entry)) ⌝ }
 {
     match trace::shrink(text, shrunk) {

@@ -9,7 +9,7 @@ use lib.Dec.{leb}
 use lib.ListN.{length, drop, length-append}
 use lib.Seq.{sets, sets-eq}
 use borrow.Author.Tests.{le-leb, lt-leb, leb-true, leb-false}
-use Rattle.choice.proofs.Picks.{split}
+use Rattle.choice.proofs.Picks.{split, pick-ind}
 use Rattle.answer.specs.declared.Refusal.the-variants.{Malformed, Room as NoRoom}
 use Rattle.decimal.proofs.PutLaws.{sets-append}
 use Rattle.trace.specs.Filling.{filledOf, over, bufferOf}
@@ -125,3 +125,17 @@ module _ (sound : Bool) (is : List Item) (buffer : List ℕ) where
 pub fills-as : (sound : Bool) (is js : List Item) (buffer : List ℕ) (r : Filled) (after : List ℕ) → is ≡ js → Fills sound is buffer r after
     → Fills sound js buffer r after
 fills-as sound is js buffer r after e f = subst (λ (x : List Item). Fills sound x buffer r after) e f
+
+-- a text that stands in a buffer is no longer than it
+abbrev Within : ℕ → Filled → Type 0
+Within room (Text n) = n ≤ room
+Within room (Refused r) = Unit {0}
+
+within : (sound : Bool) (is : List Item) (room : ℕ) → Within room (filledOf sound is room)
+unfolding filledOf
+within sound is room =
+    pick-ind (Within room) sound _ _ (λ s.
+    pick-ind (Within room) (leb (length (textOf is)) room) _ _ (λ h. leb-true (length (textOf is)) room h) (λ h. tt)) (λ s. tt)
+
+pub filled-within : (sound : Bool) (is : List Item) (room n : ℕ) → Text n ≡ filledOf sound is room → n ≤ room
+filled-within sound is room n e = subst (Within room) (sym e) (within sound is room)

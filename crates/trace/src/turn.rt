@@ -40,11 +40,12 @@ fn added(levels: u8, clocks: u32, more: u32) -> Turn
     }
 }
 
-fn at_call(levels: u8, clocks: u32) -> Turn
-    ensures { λ r. ⌜ r ≡ callTurn levels clocks ⌝ }
+// A call: what is held back goes out before it.
+fn at_call(levels: u8, held: u32) -> Turn
+    ensures { λ r. ⌜ r ≡ callTurn levels held ⌝ }
 {
     Turn {
-        out: clocks,
+        out: held,
         levels,
         clocks: 0,
     }

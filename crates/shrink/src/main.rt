@@ -1,0 +1,39 @@
+// shrink FILE: prints the shortest trace with the same clocks and calls as the one that the file holds, or the number of
+// the refusal. A file that can't be read, or none, counts as empty; one of more than 65,536 bytes is only told to be
+// long. No trace comes out longer than it went in, so there is always room.
+use console::MOST;
+use console::print;
+use console::print_decimal;
+use console::read_file;
+use trace::Filled;
+ghost use Prim.Native.Nat.{_≤_};
+ghost use lib.ListN.{length};
+
+fn print_start(bytes: &[u8], n: usize)
+    requires { ⌜ n ≤ length (now bytes) ⌝ }
+{
+    print(&bytes[..n]);
+}
+
+fn print_shrunk(text: &[u8], buffer: &mut [u8]) {
+    match trace::shrink(text, buffer) {
+        Filled::Text(n) => {
+            print_start(buffer, n);
+        }
+        Filled::Refused(r) => {
+            print_decimal(r.number() as u64);
+            print(b"\n");
+        }
+    }
+}
+
+fn main() {
+    let mut text = [0u8; MOST + 1];
+    let n = read_file(&mut text);
+    if n > MOST {
+        print(b"long\n");
+        return;
+    }
+    let mut buffer = [0u8; MOST];
+    print_shrunk(&text[..n], &mut buffer);
+}
