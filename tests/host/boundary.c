@@ -1,5 +1,6 @@
-/* What the ten calls do at the C boundary: with every length of record, levels and outputs, every address and vector,
-   any bytes, every byte held as a level, every length of a trace and every byte as U2X. Exits with 1 at the first difference.
+/* What the twelve calls do at the C boundary: with every length of record, levels and outputs, every address and vector,
+   any bytes, every byte held as a level, every length of a trace, of a list of its items and of a buffer for it, and
+   every byte as U2X. Exits with 1 at the first difference.
 
    All is done twice: between guard bytes, which this program looks at itself, and in memory of exactly the length that
    the call is told, so that valgrind sees a byte too far. Usage: boundary [short]; short tries a part of the addresses
@@ -661,6 +662,69 @@ static void traces_refused(const struct plan *plan)
     expect("line of nothing", 0, line == none, true);
 }
 
+/* ---- texts in a lent buffer ---- */
+
+typedef uint8_t filling(const uint8_t *source, size_t source_len, uint8_t *buffer, size_t buffer_len, size_t *length);
+
+/* One call: the text that it has to write, or the refusal where that is not WARPMAGPIE_DONE. */
+static void fill(const struct plan *plan, filling *call, const uint8_t *source, size_t source_len, size_t buffer_len,
+                 unsigned answer, const char *text)
+{
+    uint8_t wanted[2 * LONGEST];
+    size_t length = answer == WARPMAGPIE_DONE ? strlen(text) : 0;
+    struct piece in = make(source, source_len, source_len, plan->guard);
+    struct piece out = make_filled(GUARD, buffer_len, plan->guard);
+    struct piece told = make_filled(GUARD, sizeof(size_t), plan->guard);
+    memset(wanted, GUARD, sizeof wanted);
+    memcpy(wanted, text, length);
+    expect("text in a buffer", buffer_len, call(in.bytes, in.len, out.bytes, out.len, (size_t *)(void *)told.bytes), answer);
+    untouched("source of a text", buffer_len, &in);
+    holds("buffer with a text", buffer_len, &out, wanted);
+    holds("length of a text", buffer_len, &told, (const uint8_t *)&length);
+    drop(&in);
+    drop(&out);
+    drop(&told);
+}
+
+/* Every length of the buffer, up to one with bytes to spare: 12 exactly where the text is longer. */
+static void buffers(const struct plan *plan, filling *call, const uint8_t *source, size_t source_len, const char *text)
+{
+    for (size_t len = 0; len <= strlen(text) + GUARD_LEN; len++)
+        fill(plan, call, source, source_len, len, len < strlen(text) ? WARPMAGPIE_REFUSED_ROOM : WARPMAGPIE_DONE, text);
+}
+
+/* The calls of TRACE as a list, and C lines that can be joined with what they come to. */
+static const uint8_t LIST[] = {'W', 0, 193, 0, 24, 0, 0, 0, 'R', 0,  192, 0, 32, 0, 0, 0,
+                               'C', 17, 0, 0, 16, 0, 0, 0, 'R', 0, 193, 0, 25, 0, 0, 0};
+static const char LONG[] = "chime\t1\nC\t17\t4294967294\nC\t17\t3\nA\t0\t8\nC\t17\t1\nC\t17\t9\nC\t16\t9\n";
+static const char SHRUNK[] = "chime\t1\nC\t17\t4294967295\nC\t17\t2\nA\t0\t8\nC\t17\t10\nC\t16\t9\n";
+
+static void texts(const struct plan *plan)
+{
+    buffers(plan, warpmagpie_trace_write, LIST, sizeof LIST, TRACE);
+    buffers(plan, warpmagpie_trace_shrink, (const uint8_t *)LONG, sizeof LONG - 1, SHRUNK);
+    buffers(plan, warpmagpie_trace_shrink, (const uint8_t *)SHRUNK, sizeof SHRUNK - 1, SHRUNK);
+    for (size_t len = 0; len < sizeof LIST; len++)
+        if (len % WARPMAGPIE_TRACE_ITEM_LEN != 0)
+            fill(plan, warpmagpie_trace_write, LIST, len, len % 2 ? 0 : LONGEST, WARPMAGPIE_REFUSED_MALFORMED, "");
+    for (size_t len = 0; len < sizeof LONG - 1; len++)
+        if (len == 0 || LONG[len - 1] != '\n')
+            fill(plan, warpmagpie_trace_shrink, (const uint8_t *)LONG, len, len % 2 ? 0 : LONGEST,
+                 WARPMAGPIE_REFUSED_MALFORMED, "");
+}
+
+/* Nothing at all: an empty list has the first line as its text, an empty text is malformed. */
+static void no_texts(void)
+{
+    uint8_t buffer[LONGEST];
+    size_t length = LONGEST;
+    expect("text of no list, null", 0, warpmagpie_trace_write(NULL, 0, buffer, sizeof buffer, &length), WARPMAGPIE_DONE);
+    expect("its length", 0, length == strlen("chime\t1\n"), true);
+    expect("text in no buffer, null", 0, warpmagpie_trace_write(NULL, 0, NULL, 0, &length), WARPMAGPIE_REFUSED_ROOM);
+    expect("its length", 0, length == 0, true);
+    expect("shrink of no text, null", 0, warpmagpie_trace_shrink(NULL, 0, NULL, 0, &length), WARPMAGPIE_REFUSED_MALFORMED);
+}
+
 /* The calls that choose a baud setting store exactly their answers: UBRR, tenths of a percent, yes or no. */
 static void bauds(const struct plan *plan)
 {
@@ -720,6 +784,8 @@ int main(int argc, char **argv)
         copies(&plan);
         traces(&plan);
         traces_refused(&plan);
+        texts(&plan);
+        no_texts();
         bauds(&plan);
     }
     return 0;

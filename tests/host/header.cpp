@@ -31,5 +31,11 @@ int main()
     expect("output of a hold", output, WARPMAGPIE_DRIVES_TXD | WARPMAGPIE_OUTPUT_TXD);
     expect("requests", warpmagpie_requests(record, sizeof record, &requests), WARPMAGPIE_DONE);
     expect("bits of the report", requests, WARPMAGPIE_REQUEST_UDRE);
+    const uint8_t items[WARPMAGPIE_TRACE_ITEM_LEN] = {'C', 17, 0, 0, 16, 0, 0, 0};
+    uint8_t text[32], shrunk[32];
+    size_t length = 0;
+    expect("trace written", warpmagpie_trace_write(items, sizeof items, text, sizeof text, &length), WARPMAGPIE_DONE);
+    expect("trace shrunk", warpmagpie_trace_shrink(text, length, shrunk, sizeof shrunk, &length), WARPMAGPIE_DONE);
+    expect("bytes of the trace", static_cast<unsigned>(length), 16);
     return differences == 0 ? 0 : 1;
 }

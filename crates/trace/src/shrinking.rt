@@ -92,7 +92,8 @@ pub fn shrink(text: &[u8], buffer: &mut [u8]) -> Filled
     match check_text(text) {
         Check::Malformed(_) => Filled::Refused(Refusal::Malformed),
         Check::WellFormed => {
-            if !shrunk_fits(text, buffer.len()) {
+            let room = buffer.len();
+            if !shrunk_fits(text, room) {
                 return Filled::Refused(Refusal::Room);
             }
             let start = put_first(buffer);

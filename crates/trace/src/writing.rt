@@ -72,7 +72,8 @@ pub fn write(list: &[u8], buffer: &mut [u8]) -> Filled
     if !check_list(list) {
         return Filled::Refused(Refusal::Malformed);
     }
-    if !text_fits(list, buffer.len()) {
+    let room = buffer.len();
+    if !text_fits(list, room) {
         return Filled::Refused(Refusal::Room);
     }
     let start = put_first(buffer);
