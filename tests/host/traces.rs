@@ -1,5 +1,6 @@
 //! Plays every trace of tests/traces through the archive `libwarpmagpie.a`: by `warpmagpie_replay`, by single calls,
-//! with what traces/shown.txt says of it, and with each of its lines put otherwise. INDEX.md has to name them all.
+//! with what traces/shown.txt says of it, and with each of its lines put otherwise. Each is its own shrunk form, or
+//! shown.txt has to say why not. INDEX.md has to name them all.
 //!
 //! traces, from the repository's root
 
@@ -19,6 +20,8 @@ mod play;
 mod replay;
 #[path = "traces/shown.rs"]
 mod shown;
+#[path = "traces/shrunk.rs"]
+mod shrunk;
 #[path = "traces/trace.rs"]
 mod trace;
 
@@ -38,6 +41,7 @@ struct Tally {
     rows: usize,
     changed: usize,
     malformed: usize,
+    shrunk: usize,
 }
 
 fn main() {
@@ -79,6 +83,7 @@ fn one(trace: &Trace, rows: &[Row], tally: &mut Tally) -> Result<(), String> {
     changed::every_answer(trace, &play, tally)?;
     changed::every_line(trace, &play, tally)?;
     changed::last_lf(trace, &play, tally)?;
+    tally.shrunk += usize::from(shrunk::check(trace, rows)?);
     tally.lines += trace.lines.len();
     tally.calls += trace.lines.iter().filter(|&&line| is_call(line)).count();
     tally.clocks += play.clocks.len();
@@ -101,9 +106,10 @@ fn read(path: &str) -> Result<String, String> {
 }
 
 fn print(traces: usize, cases: usize, tally: &Tally) {
-    let Tally { lines, calls, clocks, rows, changed, malformed } = tally;
+    let Tally { lines, calls, clocks, rows, changed, malformed, shrunk } = tally;
     println!(
         "traces: {traces} traces with {cases} cases, {lines} lines, {calls} answers, {clocks} clocks; \
-         {rows} rows shown; {changed} changed answers are 10, {malformed} malformed texts are 9"
+         {rows} rows shown; {changed} changed answers are 10, {malformed} malformed texts are 9; {shrunk} are their \
+         own shrunk form, the others parted for a row"
     );
 }
