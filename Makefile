@@ -1,4 +1,4 @@
-.PHONY: archive install baud replay demo test compare bench refute
+.PHONY: archive install baud replay shrink demo test compare bench refute
 
 PREFIX ?= /usr/local
 
@@ -20,8 +20,13 @@ replay:
 	@bash scripts/program.sh replay
 	@echo "target/bin/replay FILE, as in: target/bin/replay target/demo.trace"
 
-# Builds the archive and the rig in examples/, plays both transfers, writes the waveform and the chime's trace, and
-# replays the trace.
+# Proves and builds the program that prints the shortest trace with the same clocks and calls.
+shrink:
+	@bash scripts/program.sh shrink
+	@echo "target/bin/shrink FILE, as in: target/bin/shrink long.trace >short.trace"
+
+# Builds the archive and the rig in examples/, plays both transfers, writes the waveform and the chime's trace, which is
+# shrunk, and replays the trace.
 demo:
 	@bash examples/build.sh
 	@bash scripts/program.sh replay

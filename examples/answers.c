@@ -19,9 +19,10 @@ static const struct answer ANSWERS[] = {
     ANSWER(WARPMAGPIE_REFUSED_LENGTH, "output slice not as long as the level slice"),
     ANSWER(WARPMAGPIE_REFUSED_LEVEL, "a level byte with bit 5, 6 or 7 set"),
     ANSWER(WARPMAGPIE_REFUSED_UNREQUESTED, "vector taken without its request"),
-    ANSWER(WARPMAGPIE_REFUSED_MALFORMED, "text of a trace malformed"),
+    ANSWER(WARPMAGPIE_REFUSED_MALFORMED, "text or list of a trace malformed"),
     ANSWER(WARPMAGPIE_REFUSED_DIFFERENT, "a call of a trace answered otherwise than recorded"),
     ANSWER(WARPMAGPIE_REFUSED_RANGE, "clock not 1 to 20,000,000 Hz, or rate not 1 to 2,500,000"),
+    ANSWER(WARPMAGPIE_REFUSED_ROOM, "text longer than the buffer for it"),
 };
 
 static const struct answer NO_ANSWER = {"no answer", "a number that no call gives"};

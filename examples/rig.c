@@ -6,7 +6,8 @@
 
    Usage: rig [--quiet | --sent] [--trace chime.trace] [waveform.vcd]
    --quiet prints the summary only; --sent prints the bytes that have to be on the wires and the record that the chime
-   ends with, for the tests in tests/host/; --trace records the chime, from its reset to the end, for a replay. */
+   ends with, for the tests in tests/host/; --trace records the chime, from its reset to the end, for a replay, and
+   prints how long its trace is before and after it is shrunk. */
 #include <stdlib.h>
 #include <string.h>
 
@@ -91,6 +92,11 @@ static void print_summary(int number, const struct transfer *transfer)
                report->checksum_right ? "right" : "wrong", verdict);
 }
 
+static void print_trace(const struct recorder *recorder)
+{
+    printf("trace: %zu bytes as recorded, %zu shrunk\n", recorder->recorded, recorder->shrunk);
+}
+
 static void print_bytes(const char *what, const uint8_t *bytes, size_t len)
 {
     printf("%s", what);
@@ -166,6 +172,8 @@ int main(int argc, char **argv)
         print_summary(1, &first);
         print_summary(2, &second);
         printf("night: %d hours on, %s\n", NIGHT_SECONDS / 3600, quiet ? "nothing came" : "NOT QUIET");
+        if (chosen.trace_path != NULL)
+            print_trace(&circuit.chime.recorder);
     }
     return came_whole(&first) && was_overrun(&second) && was_refused(&second) && quiet ? EXIT_SUCCESS : EXIT_FAILURE;
 }

@@ -1,7 +1,7 @@
 #!/usr/bin/env bash
-# The recorder of examples/: its text at the edges; a refused call before its node stops the program; the demo's chime,
-# whose trace, replayed, comes to the record that the chime ended with, and is refused where an answer was changed. The
-# trace that the README shows is replayed too.
+# The recorder of examples/, which writes and shrinks by the archive: its text at the edges; a refused call before its
+# node stops the program; the demo's chime, whose trace is its own shrunk form, comes to the record that the chime ended
+# with when it is replayed, and is refused where an answer was changed. The trace that the README shows is replayed too.
 set -eu
 cd "$(dirname "$0")/../.."
 fail() { echo "recorder: $*"; exit 1; }
@@ -30,6 +30,13 @@ END
 printf 'chime 1\nC 17 3\nW 195 0 1\n' | tabs | diff - $trace || fail "wanted (<) and recorded at the stop (>) differ"
 [ "$(replayed $trace)" = $'0\t0' ] || fail "the trace up to a refused call is answered $(replayed $trace)"
 
+target/rig --quiet --trace $trace >target/recorder.log || fail "the demo did not see what it has to see"
+sizes=$(sed -n 's/^trace: \([0-9]*\) bytes as recorded, \([0-9]*\) shrunk$/\1 \2/p' target/recorder.log)
+[ "${sizes#* }" = "$(wc -c <$trace)" ] || fail "the demo says of its trace '$sizes'"
+[ "${sizes% *}" -gt "${sizes#* }" ] || fail "the demo's trace did not get shorter: '$sizes'"
+bash scripts/program.sh shrink
+target/bin/shrink $trace | cmp - $trace || fail "the demo's trace is not its own shrunk form"
+
 target/rig --sent --trace $trace >target/recorder.sent || fail "the demo did not see what it has to see"
 { printf '0\t0\n' && grep '^record ' target/recorder.sent; } >target/recorder.wanted
 target/recorder replay $trace | diff target/recorder.wanted - || fail "the demo (<) and its replay (>) differ"
@@ -48,5 +55,5 @@ for change in W:4 R:4 R:3 A:3; do
         $trace >$changed
     [ "$(replayed $changed)" = $'10\t'"$line" ] || fail "$kind changed at line $line is answered $(replayed $changed)"
 done
-echo "recorder: the demo's trace of $(wc -l <$trace) lines, $(wc -c <$trace) bytes, replays to the chime's record;" \
-    "changed answers are refused"
+echo "recorder: the demo's trace of $(wc -l <$trace) lines, ${sizes#* } bytes (${sizes% *} as recorded), replays to the" \
+    "chime's record; changed answers are refused"

@@ -1,0 +1,86 @@
+//! Times of writing and shrinking a trace's text, a line, against the independent model of tests/host/model, a plain
+//! Rust program with vectors and `format!`. Both must come to the same text.
+
+use crate::listing;
+use crate::shrinking;
+use crate::text;
+use crate::trace::Item;
+use crate::writing;
+use std::time::Instant;
+
+extern "C" {
+    fn warpmagpie_trace_write(
+        items: *const u8,
+        items_len: usize,
+        text: *mut u8,
+        text_len: usize,
+        length: *mut usize,
+    ) -> u8;
+    fn warpmagpie_trace_shrink(
+        text: *const u8,
+        text_len: usize,
+        shrunk: *mut u8,
+        shrunk_len: usize,
+        length: *mut usize,
+    ) -> u8;
+}
+
+type Call = unsafe extern "C" fn(*const u8, usize, *mut u8, usize, *mut usize) -> u8;
+
+/// Lines of each row.
+const LINES: u32 = 10_000;
+/// No line has more bytes.
+const LINE_LEN: usize = 16;
+
+/// The pointers come from slices that are borrowed for the call, with their own lengths.
+fn fill(call: Call, source: &[u8], buffer: &mut [u8]) -> usize {
+    let mut length = usize::MAX;
+    let number =
+        unsafe { call(source.as_ptr(), source.len(), buffer.as_mut_ptr(), buffer.len(), &mut length) };
+    assert_eq!(number, 0);
+    length
+}
+
+/// ns a line of archive and model.
+fn race(call: Call, model: fn(&[u8]) -> Option<Vec<u8>>, source: &[u8], rounds: usize) -> [f64; 2] {
+    let mut buffer = vec![0; LINES as usize * LINE_LEN + LINE_LEN];
+    let mut best = [f64::MAX; 2];
+    for _ in 0..rounds {
+        let begun = Instant::now();
+        let length = fill(call, source, &mut buffer);
+        let between = Instant::now();
+        let wanted = model(source);
+        best[1] = best[1].min(between.elapsed().as_nanos() as f64 / f64::from(LINES));
+        best[0] = best[0].min((between - begun).as_nanos() as f64 / f64::from(LINES));
+        assert!(wanted.as_deref() == Some(&buffer[..length]), "a text: a difference");
+    }
+    best
+}
+
+/// Writes and reads, with clocks between them.
+fn calls() -> Vec<Item> {
+    let line = |n: u32| match n % 3 {
+        0 => Item::Write { address: 193, value: n as u8, answer: 0 },
+        1 => Item::Clocks { levels: 17, clocks: 100 + n },
+        _ => Item::Read { address: 192, value: n as u8, answer: 0 },
+    };
+    (0..LINES).map(line).collect()
+}
+
+/// A clock a line, as a rig records that makes a run for each.
+fn clocks() -> Vec<Item> {
+    (0..LINES).map(|_| Item::Clocks { levels: 17, clocks: 1 }).collect()
+}
+
+/// Each row's name, and ns a line of archive and model.
+pub fn rows(rounds: usize) -> [(&'static str, [f64; 2]); 4] {
+    let [calls, clocks] = [calls(), clocks()];
+    let write = |items: &[Item]| race(warpmagpie_trace_write, writing::written, &listing::list(items), rounds);
+    let shrink = |items: &[Item]| race(warpmagpie_trace_shrink, shrinking::shrunk, &text::write(items), rounds);
+    [
+        ("written: calls, clocks between them", write(&calls)),
+        ("written: a clock a line", write(&clocks)),
+        ("shrunk: calls, nothing to join", shrink(&calls)),
+        ("shrunk: a clock a line, all joined", shrink(&clocks)),
+    ]
+}
