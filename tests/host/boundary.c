@@ -1,6 +1,6 @@
-/* What the twelve calls do at the C boundary: with every length of record, levels and outputs, every address and vector,
-   any bytes, every byte held as a level, every length of a trace, of a list of its items and of a buffer for it, and
-   every byte as U2X. Exits with 1 at the first difference.
+/* What the twelve calls do at the C boundary: with every length of record, levels and outputs, every address and
+   vector, any bytes, every byte held as a level, every length of a trace, of a list of its items and of a buffer for
+   it, and every byte as U2X. Exits with 1 at the first difference.
 
    All is done twice: between guard bytes, which this program looks at itself, and in memory of exactly the length that
    the call is told, so that valgrind sees a byte too far. Usage: boundary [short]; short tries a part of the addresses
@@ -677,7 +677,8 @@ static void fill(const struct plan *plan, filling *call, const uint8_t *source, 
     struct piece told = make_filled(GUARD, sizeof(size_t), plan->guard);
     memset(wanted, GUARD, sizeof wanted);
     memcpy(wanted, text, length);
-    expect("text in a buffer", buffer_len, call(in.bytes, in.len, out.bytes, out.len, (size_t *)(void *)told.bytes), answer);
+    unsigned got = call(in.bytes, in.len, out.bytes, out.len, (size_t *)(void *)told.bytes);
+    expect("text in a buffer", buffer_len, got, answer);
     untouched("source of a text", buffer_len, &in);
     holds("buffer with a text", buffer_len, &out, wanted);
     holds("length of a text", buffer_len, &told, (const uint8_t *)&length);
@@ -718,11 +719,13 @@ static void no_texts(void)
 {
     uint8_t buffer[LONGEST];
     size_t length = LONGEST;
-    expect("text of no list, null", 0, warpmagpie_trace_write(NULL, 0, buffer, sizeof buffer, &length), WARPMAGPIE_DONE);
+    expect("text of no list, null", 0, warpmagpie_trace_write(NULL, 0, buffer, sizeof buffer, &length),
+           WARPMAGPIE_DONE);
     expect("its length", 0, length == strlen("chime\t1\n"), true);
     expect("text in no buffer, null", 0, warpmagpie_trace_write(NULL, 0, NULL, 0, &length), WARPMAGPIE_REFUSED_ROOM);
     expect("its length", 0, length == 0, true);
-    expect("shrink of no text, null", 0, warpmagpie_trace_shrink(NULL, 0, NULL, 0, &length), WARPMAGPIE_REFUSED_MALFORMED);
+    expect("shrink of no text, null", 0, warpmagpie_trace_shrink(NULL, 0, NULL, 0, &length),
+           WARPMAGPIE_REFUSED_MALFORMED);
 }
 
 /* The calls that choose a baud setting store exactly their answers: UBRR, tenths of a percent, yes or no. */

@@ -55,5 +55,5 @@ for change in W:4 R:4 R:3 A:3; do
         $trace >$changed
     [ "$(replayed $changed)" = $'10\t'"$line" ] || fail "$kind changed at line $line is answered $(replayed $changed)"
 done
-echo "recorder: the demo's trace of $(wc -l <$trace) lines, ${sizes#* } bytes (${sizes% *} as recorded), replays to the" \
-    "chime's record; changed answers are refused"
+echo "recorder: the demo's trace of $(wc -l <$trace) lines, ${sizes#* } bytes (${sizes% *} as recorded), replays to" \
+    "the chime's record; changed answers are refused"

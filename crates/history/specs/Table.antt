@@ -152,7 +152,8 @@ pub record Numbers (s : List ℕ) : Type 0 where
       → (isNoList list ≡ true → (is : List Item) → AllInRange is → list ≡ listOf is → ⊥)
       × (((is : List Item) → AllInRange is → list ≡ listOf is → ⊥) → isNoList list ≡ true)
   pub traceWrite : (list buffer : List ℕ)
-      → traceWriteAnswer list buffer ≡ pick (isNoList list) 9 (pick (isLonger (textOf (listingOf list .items)) buffer) 12 0)
+      → traceWriteAnswer list buffer
+      ≡ pick (isNoList list) 9 (pick (isLonger (textOf (listingOf list .items)) buffer) 12 0)
   pub traceShrink : (text buffer : List ℕ)
       → traceShrinkAnswer text buffer ≡ pick (isMalformed text) 9 (pick (isLonger (shrunkText text) buffer) 12 0)
   pub plan : (clock rate u2x : ℕ) → planAnswer clock rate u2x ≡ pick (isOutOfRange clock rate) 11 0

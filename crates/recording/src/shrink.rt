@@ -1,5 +1,5 @@
 // The shortest text with the same clocks and calls.
-use trace::Filled;
+use crate::reply::answered;
 ghost use mathlib.Core.Path.{_≡_};
 ghost use Rattle.trace.specs.Filling.{bufferShrunk};
 ghost use Rattle.recording.specs.Calls.{traceShrinkAnswer, traceShrinkLength};
@@ -10,14 +10,5 @@ pub extern "C" fn warpmagpie_trace_shrink(text: &[u8], shrunk: &mut [u8], size: 
     ensures { λ _. ⌜ now (size .exit) ≡ traceShrinkLength (now (text .entry)) (now (shrunk .entry)) ⌝ }
     ensures { λ _. ⌜ now (shrunk .exit) ≡ bufferShrunk (now (text .entry)) (now (shrunk .entry)) ⌝ }
 {
-    match trace::shrink(text, shrunk) {
-        Filled::Text(n) => {
-            *size = n;
-            0
-        }
-        Filled::Refused(r) => {
-            *size = 0;
-            r.number()
-        }
-    }
+    answered(trace::shrink(text, shrunk), size)
 }

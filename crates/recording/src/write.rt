@@ -1,5 +1,5 @@
 // The text of a list of items.
-use trace::Filled;
+use crate::reply::answered;
 ghost use mathlib.Core.Path.{_≡_};
 ghost use Rattle.trace.specs.Filling.{bufferWritten};
 ghost use Rattle.recording.specs.Calls.{traceWriteAnswer, traceWriteLength};
@@ -10,14 +10,5 @@ pub extern "C" fn warpmagpie_trace_write(items: &[u8], text: &mut [u8], size: &m
     ensures { λ _. ⌜ now (size .exit) ≡ traceWriteLength (now (items .entry)) (now (text .entry)) ⌝ }
     ensures { λ _. ⌜ now (text .exit) ≡ bufferWritten (now (items .entry)) (now (text .entry)) ⌝ }
 {
-    match trace::write(items, text) {
-        Filled::Text(n) => {
-            *size = n;
-            0
-        }
-        Filled::Refused(r) => {
-            *size = 0;
-            r.number()
-        }
-    }
+    answered(trace::write(items, text), size)
 }

@@ -1,5 +1,5 @@
--- Items that go out to a lent buffer, some at a time: what is left of a buffer's room, and what has been put there. Both
--- passes of the writer and both of the shrink are such.
+-- Items that go out to a lent buffer, some at a time: what is left of its room, and what has been put there. Both passes
+-- of the writer and both of the shrink are such.
 use Prim.Native.Nat.{ℕ, _+_, _-_, _<_, _≤_}
 use mathlib.Core.Path.{_≡_, refl, ap, sym, subst, _∙_}
 use mathlib.Core.Bool.{Bool, true, false}

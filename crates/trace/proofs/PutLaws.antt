@@ -7,7 +7,8 @@ use native.Mathlib.Numerals.{add-one}
 use lib.ListN.{length, set, length-append}
 use lib.Seq.{sets, length-sets}
 use Rattle.decimal.specs.Digits.{digitsOf}
-use Rattle.decimal.proofs.PutLaws.{sets-append}
+use Rattle.decimal.specs.Number.{placePast, withNumber}
+use Rattle.decimal.proofs.PutLaws.{sets-append, put-there}
 use Rattle.trace.specs.Text.{lineOf, linesOf, fieldsOf}
 use Rattle.trace.specs.Putting.{Room, Put, closedBy, headOf, pairOf, tripleOf}
 use Rattle.trace.specs.declared.item.Item.{Item}
@@ -47,6 +48,11 @@ triple-line letter x y z =
     ap (λ (r : List ℕ). letter ∷ 9 ∷ r)
     (append-assoc (digitsOf x) (9 ∷ []) (closedBy 9 y ++ closedBy 10 z)
     ∙ ap (λ (r : List ℕ). digitsOf x ++ 9 ∷ r) (append-assoc (digitsOf y) (9 ∷ []) (closedBy 10 z)))
+
+-- a number where its field has room
+pub number-there : (buffer : List ℕ) (at n end : ℕ) → Room buffer at (closedBy end n)
+    → (placePast buffer at n ≡ at + length (digitsOf n)) × (withNumber buffer at n ≡ sets buffer at (digitsOf n))
+number-there buffer at n end r = put-there buffer at n (omega (arith, r .fits, length-append (digitsOf n) (end ∷ [])))
 
 pub put-field : (a b : List ℕ) (at last n end : ℕ) → last ≡ at + length (digitsOf n) → b ≡ sets a at (digitsOf n)
     → Put a (set b last end) at (last + 1) (closedBy end n)

@@ -82,7 +82,8 @@ withEntry Outside r = listed false
 -- at most n entries
 unfoldable pub listingBy : ℕ → List ℕ → ℕ → Listing
 listingBy zero list at = listed true
-listingBy (suc n) list at = pick (ltb at (length list)) (withEntry (entryAt list at) (listingBy n list (at + 8))) (listed true)
+listingBy (suc n) list at =
+    pick (ltb at (length list)) (withEntry (entryAt list at) (listingBy n list (at + 8))) (listed true)
 
 -- from a place on; every entry has a byte
 unfoldable pub listingAt : List ℕ → ℕ → Listing

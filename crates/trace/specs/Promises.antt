@@ -16,7 +16,8 @@ use Rattle.trace.specs.declared.text.Check.the-variants.{WellFormed}
 
 -- a list of bytes is taken exactly if it is the list of some items in range, and then those are its items; else 9
 pub record Lists (list : List ℕ) : Type 0 where
-  pub taken : listingOf list .sound ≡ true → AllInRange (listingOf list .items) × (list ≡ listOf (listingOf list .items))
+  pub taken : listingOf list .sound ≡ true
+      → AllInRange (listingOf list .items) × (list ≡ listOf (listingOf list .items))
   pub found : (is : List Item) → AllInRange is → list ≡ listOf is → listingOf list ≡ record { items = is; sound = true }
 
 -- 'reading what was written gives the list back': the text that stands in the buffer is well-formed, and the list of
@@ -55,7 +56,9 @@ pub record Shrinks (text : List ℕ) : Type 0 where
   pub well : contentsOf (shrunkText text) .check ≡ WellFormed
   pub same : SameText (shrunkText text) text
   -- 'no text with the same clocks and calls in order is shorter', the text itself among them
-  pub least : (other : List ℕ) → contentsOf other .check ≡ WellFormed → SameText other text → length (shrunkText text) ≤ length other
+  pub least : (other : List ℕ) → contentsOf other .check ≡ WellFormed → SameText other text
+      → length (shrunkText text) ≤ length other
   -- every such text has the same shrunk text, so 'shrinking twice changes nothing'
-  pub one : (other : List ℕ) → contentsOf other .check ≡ WellFormed → SameText other text → shrunkText other ≡ shrunkText text
+  pub one : (other : List ℕ) → contentsOf other .check ≡ WellFormed → SameText other text
+      → shrunkText other ≡ shrunkText text
   pub twice : shrunkText (shrunkText text) ≡ shrunkText text

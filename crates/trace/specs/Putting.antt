@@ -1,4 +1,4 @@
--- Bytes put into a lent buffer, and the parts of a line.
+-- A means, no rule: bytes put into a lent buffer, and the parts of a line.
 use Prim.Native.Nat.{ℕ, _+_, _≤_}
 use mathlib.Core.Path.{_≡_}
 use mathlib.Core.List.{List, [], _∷_, _++_}

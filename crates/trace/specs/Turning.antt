@@ -1,5 +1,5 @@
--- The shrink as a pass over the items with a run of clocks held back: what the code does. That it comes to `shrunkOf` is
--- proved in proofs/HeldLaws.antt.
+-- A means, no rule: the shrink as a pass over the items, with a run of clocks held back. That it comes to `shrunkOf` is
+-- proved in proofs/OutLaws.antt.
 use Prim.Native.Nat.{ℕ, _+_, _-_}
 use mathlib.Core.Bool.{Bool, true, false}
 use mathlib.Core.List.{List, [], _∷_, _++_}
@@ -22,7 +22,9 @@ outOf full l n (Clocks m d ∷ is) = pick (eqb l m) (outOf full l (n + d) is) (p
 -- levels a full line goes out where there are more
 unfoldable pub addedTurn : ℕ → ℕ → ℕ → Turn
 addedTurn l n d =
-    pick (ltb most (n + d)) (record { out = most; levels = l; clocks = n + d - most }) (record { out = 0; levels = l; clocks = n + d })
+    pick (ltb most (n + d))
+    (record { out = most; levels = l; clocks = n + d - most })
+    (record { out = 0; levels = l; clocks = n + d })
 
 abbrev pub callTurn : ℕ → ℕ → Turn
 callTurn l n = record { out = n; levels = l; clocks = 0 }
