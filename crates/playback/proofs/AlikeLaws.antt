@@ -6,11 +6,11 @@ use mathlib.Core.List.{List, [], _∷_, _++_, append-assoc}
 use native.Mathlib.Omega.{arith}
 use lib.ListN.{replicate}
 use Rattle.choice.proofs.Picks.{split}
-use Rattle.choice.proofs.TimesLaws.{times-none, times-one, times-add}
+use Rattle.choice.proofs.TimesLaws.{times-add}
 use Rattle.choice.specs.Times.{times}
 use Rattle.device.specs.Holding.{clockAt, heldOf}
 use Rattle.device.specs.Run.{outputsOf}
-use Rattle.device.specs.Unit.{clockOf, resetDevice}
+use Rattle.device.specs.Unit.{resetDevice}
 use Rattle.device.specs.declared.unit.Device.{Device}
 use Rattle.trace.specs.Contents.{contentsOf}
 use Rattle.trace.specs.Promises.{unitsOf, expandedOf, SameText}

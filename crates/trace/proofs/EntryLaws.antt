@@ -1,19 +1,15 @@
 -- An entry of a list, and the list, an entry after the other: read, it is the item whose bytes stand there.
-use Prim.Native.Nat.{ℕ, zero, suc, _+_, _*_, _-_, _/_, _%_, _<_, _≤_}
-use mathlib.Core.Path.{_≡_, refl, ap, sym, subst, _∙_}
-use mathlib.Core.Bool.{true, false, _&&_}
-use mathlib.Core.List.{List, [], _∷_, _++_}
+use Prim.Native.Nat.{ℕ, zero, suc, _+_, _-_, _<_, _≤_}
+use mathlib.Core.Path.{_≡_, refl, ap, sym, _∙_}
+use mathlib.Core.Bool.{true}
+use mathlib.Core.List.{List}
 use native.Mathlib.Omega.{arith}
-use native.Mathlib.Numerals.{add-one}
-use lib.Dec.{leb, ltb, eqb}
-use lib.ListN.{length, getD, drop, length-append, length-drop, drop-of-length-le}
-use lib.Seq.{drop-cons}
-use borrow.Author.Tests.{lt-ltb, le-ltb, ltb-true, ltb-false, le-leb, lt-leb, leb-true, eq-eqb, ne-eqb, eqb-true}
-use Rattle.choice.proofs.Picks.{split, clash, pick-ind}
-use Rattle.trace.specs.Listing.{entryOf, bytesOf, shortAt, longAt, clocksFrom, callFrom, entryFrom, entryAt, Listing, listed, withEntry, listingBy, listingAt}
-use Rattle.trace.specs.Text.{InRange}
+use lib.Dec.{leb, ltb}
+use lib.ListN.{length, getD}
+use borrow.Author.Tests.{lt-ltb, le-ltb, le-leb, lt-leb, leb-true}
+use Rattle.choice.proofs.Picks.{split}
+use Rattle.trace.specs.Listing.{shortAt, longAt, entryFrom, entryAt, listed, withEntry, listingBy, listingAt}
 use Rattle.trace.specs.declared.item.Item.{Item}
-use Rattle.trace.specs.declared.item.Item.the-variants.{Write, Read, Vector, Clocks}
 use Rattle.trace.specs.declared.listing.Entry.{Entry}
 use Rattle.trace.specs.declared.listing.Entry.the-variants.{Held, Outside}
 

@@ -3,7 +3,7 @@
 use Prim.Native.Nat.{ℕ, _+_, _-_, _<_, _≤_}
 use mathlib.Core.Path.{_≡_, refl, ap, sym, subst, _∙_}
 use mathlib.Core.Bool.{Bool, true, false}
-use mathlib.Core.List.{List, [], _∷_, _++_}
+use mathlib.Core.List.{List, [], _++_}
 use native.Mathlib.Omega.{arith}
 use lib.Dec.{leb}
 use lib.ListN.{length, drop, length-append}
@@ -12,7 +12,7 @@ use borrow.Author.Tests.{le-leb, lt-leb, leb-true, leb-false}
 use Rattle.choice.proofs.Picks.{split, pick-ind}
 use Rattle.answer.specs.declared.Refusal.the-variants.{Malformed, Room as NoRoom}
 use Rattle.decimal.proofs.PutLaws.{sets-append}
-use Rattle.trace.specs.Filling.{filledOf, over, bufferOf}
+use Rattle.trace.specs.Filling.{filledOf, bufferOf}
 use Rattle.trace.specs.Putting.{Room, Put}
 use Rattle.trace.specs.Text.{linesOf, textOf, firstLine}
 use Rattle.trace.specs.declared.filled.Filled.{Filled}

@@ -1,7 +1,7 @@
 -- A list is read as what it is: the items whose bytes it has (`Lists`).
 use Prim.Native.Nat.{ℕ, zero, suc, _+_, _*_, _/_, _%_, _<_, _≤_}
 use mathlib.Core.Path.{_≡_, refl, ap, sym, subst, _∙_}
-use mathlib.Core.Bool.{true, false, _&&_}
+use mathlib.Core.Bool.{true, false}
 use mathlib.Core.List.{List, [], _∷_, _++_}
 use native.Mathlib.Omega.{arith}
 use native.Mathlib.Numerals.{add-one}
@@ -9,16 +9,16 @@ use lib.Dec.{ltb, eqb}
 use lib.ListN.{length, getD, drop, length-drop, drop-of-length-le}
 use lib.Pow.{areBytes}
 use lib.Seq.{drop-cons, drop-drop, getD-drop}
-use borrow.Author.Tests.{lt-ltb, le-ltb, ltb-true, ltb-false, eq-eqb, ne-eqb, eqb-true}
+use borrow.Author.Tests.{le-ltb, ltb-true, ltb-false, eq-eqb, ne-eqb, eqb-true}
 use Rattle.choice.proofs.Picks.{split, clash, pick-ind}
-use Rattle.trace.specs.Listing.{entryOf, bytesOf, listOf, shortAt, longAt, clocksFrom, callFrom, entryFrom, entryAt, Listing, listed, withEntry, listingAt, listingOf}
+use Rattle.trace.specs.Listing.{entryOf, bytesOf, listOf, shortAt, longAt, clocksFrom, callFrom, entryFrom, entryAt, Listing, withEntry, listingAt, listingOf}
 use Rattle.trace.specs.Promises.{Lists}
 use Rattle.trace.specs.Text.{InRange, AllInRange}
 use Rattle.trace.specs.declared.item.Item.{Item}
 use Rattle.trace.specs.declared.item.Item.the-variants.{Write, Read, Vector, Clocks}
 use Rattle.trace.specs.declared.listing.Entry.{Entry}
 use Rattle.trace.specs.declared.listing.Entry.the-variants.{Held, Outside}
-use Rattle.trace.proofs.EntryLaws.{entry-short, entry-there, entry-within, listing-entry, listing-over}
+use Rattle.trace.proofs.EntryLaws.{entry-there, entry-within, listing-entry, listing-over}
 
 -- ---- what an entry's numbers are read as
 abbrev Stands : ℕ → ℕ → ℕ → ℕ → Entry → Type 0

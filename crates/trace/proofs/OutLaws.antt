@@ -1,19 +1,17 @@
 -- The pass with a run of clocks held back gives the shrunk list, and one item of it keeps what the pass gives.
-use Prim.Native.Nat.{ℕ, zero, suc, _+_, _-_, _/_, _%_, _<_, _≤_}
-use mathlib.Core.Path.{_≡_, refl, ap, sym, subst, _∙_}
-use mathlib.Core.Bool.{Bool, true, false}
+use Prim.Native.Nat.{ℕ, suc, _+_, _-_, _/_, _%_, _<_, _≤_}
+use mathlib.Core.Path.{_≡_, refl, ap, sym, _∙_}
+use mathlib.Core.Bool.{false}
 use mathlib.Core.List.{List, [], _∷_, _++_, append-assoc, append-nil}
 use native.Mathlib.Omega.{arith}
 use native.Mathlib.Nat.{zero-div, zero-mod, add-div-left, add-mod-left}
 use lib.Dec.{eqb, ltb, lit<}
-use lib.ListN.{replicate}
 use borrow.Author.Tests.{eq-eqb, eqb-true, ltb-true, ltb-false}
-use Rattle.choice.specs.Pick.{pick}
 use Rattle.choice.proofs.Picks.{split}
 use Rattle.trace.specs.declared.item.Item.{Item}
 use Rattle.trace.specs.declared.item.Item.the-variants.{Write, Read, Vector, Clocks}
-use Rattle.trace.specs.Shrinking.{most, clocksBefore, mergedOf, restOf, partsOf, cutItem, cutOf, shrunkOf}
-use Rattle.trace.specs.Turning.{outOf, addedTurn, turnOf, callOf, outAt}
+use Rattle.trace.specs.Shrinking.{most, clocksBefore, mergedOf, restOf, partsOf, cutOf, shrunkOf}
+use Rattle.trace.specs.Turning.{outOf, addedTurn, turnOf, outAt}
 use Rattle.trace.specs.declared.turn.Turn.{Turn}
 
 module _ (full : ℕ) (some : 0 < full) where

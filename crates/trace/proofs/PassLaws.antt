@@ -1,15 +1,14 @@
 -- What is left to go out at a place of a list or of a text: the loops of writer and shrink, one way of a turn each.
 use Prim.Native.Nat.{ℕ, zero, suc, _+_, _<_, _≤_}
 use mathlib.Core.Path.{_≡_, refl, ap, sym, subst, _∙_}
-use mathlib.Core.Bool.{Bool, true, false}
+use mathlib.Core.Bool.{true, false}
 use mathlib.Core.List.{List, [], _∷_, _++_, append-nil}
 use native.Mathlib.Omega.{arith}
 use lib.ListN.{length}
-use Rattle.trace.specs.Contents.{Contents, withItem, contentsBy, contentsAt, contentsOf, withLine}
+use Rattle.trace.specs.Contents.{Contents, contentsBy, contentsAt, contentsOf, withLine}
 use Rattle.trace.specs.Filling.{isWell}
 use Rattle.trace.specs.Line.{lineAt}
-use Rattle.trace.specs.Listing.{entryAt, Listing, withEntry, listingAt, listingOf}
-use Rattle.trace.specs.Putting.{Put, Room}
+use Rattle.trace.specs.Listing.{entryAt, Listing, listingAt}
 use Rattle.trace.specs.Shrinking.{most, restOf, shrunkOf}
 use Rattle.trace.specs.Text.{lineOf, linesOf}
 use Rattle.trace.specs.Turning.{outOf, turnOf, outAt}

@@ -1,14 +1,12 @@
 -- The shrink keeps clocks and calls, depends on nothing else, and stays in range.
-use Prim.Native.Nat.{ℕ, zero, suc, _+_, _*_, _/_, _%_, _<_, _≤_}
-use mathlib.Core.Path.{_≡_, refl, ap, sym, subst, _∙_}
-use mathlib.Core.Bool.{Bool, true, false}
+use Prim.Native.Nat.{ℕ, zero, suc, _+_, _*_, _/_, _%_, _≤_}
+use mathlib.Core.Path.{_≡_, refl, ap, sym, _∙_}
 use mathlib.Core.List.{List, [], _∷_, _++_, append-assoc, append-nil}
 use native.Mathlib.Omega.{arith}
 use native.Mathlib.Nat.{div-add-mod', suc-mul, mod-lt}
 use lib.Dec.{eqb, lit≤}
 use lib.ListN.{replicate, replicate-append-replicate}
 use borrow.Author.Tests.{eq-eqb, eqb-true}
-use Rattle.choice.specs.Pick.{pick}
 use Rattle.choice.proofs.Picks.{split, pick-ind}
 use Rattle.trace.specs.Text.{InRange, AllInRange}
 use Rattle.trace.specs.declared.item.Item.{Item}

@@ -1,20 +1,19 @@
 -- No list with the same clocks and calls has a shorter text.
 use Prim.Native.Nat.{ℕ, zero, suc, _+_, _*_, _-_, _/_, _%_, _<_, _≤_}
-use mathlib.Core.Path.{_≡_, refl, ap, sym, subst, _∙_}
-use mathlib.Core.Bool.{Bool, true, false}
+use mathlib.Core.Path.{_≡_, refl, ap, _∙_}
+use mathlib.Core.Bool.{false}
 use mathlib.Core.List.{List, [], _∷_, _++_}
 use native.Mathlib.Omega.{arith}
 use native.Mathlib.Nat.{suc-mul}
 use lib.Dec.{eqb, ltb}
 use lib.ListN.{length, replicate, length-append}
 use borrow.Author.Tests.{eqb-true, ltb-true, ltb-false}
-use Rattle.choice.specs.Pick.{pick}
 use Rattle.choice.proofs.Picks.{split, pick-ind}
 use Rattle.decimal.proofs.CountLaws.{count, count-sum, count-past}
 use Rattle.trace.specs.Text.{InRange, AllInRange, lineOf, linesOf, textOf, firstLine}
 use Rattle.trace.specs.declared.item.Item.{Item}
 use Rattle.trace.specs.declared.item.Item.the-variants.{Write, Read, Vector, Clocks}
-use Rattle.trace.specs.Shrinking.{most, before, mergedOf, restOf, partsOf, cutItem, cutOf, shrunkOf}
+use Rattle.trace.specs.Shrinking.{most, before, mergedOf, restOf, partsOf, cutOf, shrunkOf}
 use Rattle.trace.specs.Promises.{Same}
 use Rattle.trace.proofs.PutLaws.{pair-length}
 use Rattle.trace.proofs.ShrinkLaws.{shrunk-alike}

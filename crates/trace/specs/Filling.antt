@@ -1,16 +1,13 @@
 -- A text in a lent buffer (document 02, M-109): '9 when a list item is outside M-100's ranges; else 12 exactly when the
 -- text is longer than the buffer. Either way the buffer keeps its bytes, as do those past a text.'
-use Prim.Native.Nat.{ℕ, _+_, _≤_}
+use Prim.Native.Nat.{ℕ}
 use mathlib.Core.Bool.{Bool, true, false}
-use mathlib.Core.List.{List, [], _∷_, _++_}
-use mathlib.Core.Path.{_≡_}
+use mathlib.Core.List.{List, _++_}
 use lib.Dec.{leb}
 use lib.ListN.{length, drop}
-use lib.Seq.{sets}
 use Rattle.choice.specs.Pick.{pick}
 use Rattle.answer.specs.declared.Refusal.the-variants.{Malformed, Room as NoRoom}
-use Rattle.decimal.specs.Digits.{digitsOf}
-use Rattle.trace.specs.Contents.{Contents, contentsOf}
+use Rattle.trace.specs.Contents.{contentsOf}
 use Rattle.trace.specs.Listing.{listingOf}
 use Rattle.trace.specs.Shrinking.{shrunkOf}
 use Rattle.trace.specs.Text.{textOf}

@@ -4,9 +4,8 @@ use mathlib.Core.Bool.{true}
 use mathlib.Core.List.{List, [], _∷_, _++_}
 use mathlib.Core.Path.{_≡_}
 use lib.ListN.{length, replicate, take}
-use lib.Pow.{areBytes}
 use Rattle.trace.specs.Contents.{contentsOf}
-use Rattle.trace.specs.Filling.{bufferWritten, bufferShrunk}
+use Rattle.trace.specs.Filling.{bufferWritten}
 use Rattle.trace.specs.Listing.{listOf, listingOf}
 use Rattle.trace.specs.Shrinking.{shrunkText}
 use Rattle.trace.specs.Text.{AllInRange, textOf}

@@ -1,4 +1,4 @@
-use mathlib.Core.Path.{sym, ap, _∙_, refl}
+use mathlib.Core.Path.{sym, ap, _∙_}
 use Rattle.trace.specs.Turning.{turnOf}
 use Rattle.trace.proofs.TurnLaws.{turn-same, turn-other}
 use borrow.Author.Needs.{needs}
