@@ -136,19 +136,41 @@ static void refusals(void)
     expect("answered otherwise", warpmagpie_replay(record, sizeof record, (const uint8_t *)"chime\t1\nR\t192\t33\t0\n", 19, &line),
            WARPMAGPIE_REFUSED_DIFFERENT);
     expect("its line", (unsigned)line, 2);
+}
+
+/* Those of the calls that take no record. */
+static void refusals_without_record(void)
+{
+    static const uint8_t ITEM[WARPMAGPIE_TRACE_ITEM_LEN] = {'C', 17, 0, 0, 16, 0, 0, 0};
+    uint8_t text[16], value = 9;
+    size_t length = 9;
+    memset(text, 7, sizeof text);
+    expect("half an item", warpmagpie_trace_write(ITEM, 4, text, 0, &length), WARPMAGPIE_REFUSED_MALFORMED);
+    expect("text longer than the buffer", warpmagpie_trace_write(ITEM, sizeof ITEM, text, 15, &length),
+           WARPMAGPIE_REFUSED_ROOM);
+    expect("its length", (unsigned)length, 0);
+    expect("first byte of the buffer", text[0], 7);
+    done("a buffer that is long enough", warpmagpie_trace_write(ITEM, sizeof ITEM, text, 16, &length));
+    expect("the text", (unsigned)memcmp(text, "chime\t1\nC\t17\t16\n", 16), 0);
     uint16_t ubrr = 9;
     int32_t tenths = 9;
     expect("rate out of range", warpmagpie_plan_baud(16000000, 2500001, 0, &ubrr, &tenths), WARPMAGPIE_REFUSED_RANGE);
     expect("answers of a refused plan", ubrr != 0 || tenths != 0, 0);
     expect("clock out of range", warpmagpie_check_baud(0, 9600, 0, 51, &value), WARPMAGPIE_REFUSED_RANGE);
     expect("answer of a refused check", value, 0);
-    puts("refusals 1 to 11: numbers as given, nothing touched but by 9 and 10");
+}
+
+static void all_refusals(void)
+{
+    refusals();
+    refusals_without_record();
+    puts("refusals 1 to 12: numbers as given, nothing touched but by 9 and 10 of a replay");
 }
 
 int main(void)
 {
     m8();
     m10();
-    refusals();
+    all_refusals();
     return 0;
 }
