@@ -10,23 +10,7 @@ mod archive;
 #[path = "../tests/host/model/mod.rs"]
 mod model;
 mod holds;
-#[allow(dead_code)]
-#[path = "../tests/host/model/listing.rs"]
-mod listing;
 mod replays;
-#[allow(dead_code)]
-#[path = "../tests/host/model/shrinking.rs"]
-mod shrinking;
-#[allow(dead_code)]
-#[path = "../tests/host/replay/text.rs"]
-mod text;
-mod texts;
-#[allow(dead_code)]
-#[path = "../tests/host/model/trace.rs"]
-mod trace;
-#[allow(dead_code)]
-#[path = "../tests/host/model/writing.rs"]
-mod writing;
 
 use holds::Hold;
 use model::{address, level, record, spi, usart, Device};
@@ -325,13 +309,6 @@ fn print_holds(rounds: usize) {
     println!("to reach: {HOLD_LIMIT} of the model at UBRR 51 idle, and no hold above {HOLD_NS:.0}");
 }
 
-fn print_texts(rounds: usize) {
-    println!("{:<46}{:>9}{:>9}{:>9}", "ns a line of a trace", "archive", "model", "ratio");
-    for (name, [archive, model]) in texts::rows(rounds) {
-        println!("{name:<46}{archive:>9.1}{model:>9.1}{:>9.2}", archive / model);
-    }
-}
-
 /// Runs something and lowers the best time so far.
 fn time(best: &mut f64, clocks: usize, run: impl FnOnce()) {
     let begun = Instant::now();
@@ -427,5 +404,4 @@ fn main() {
     print_table("ns a run of one clock, each with a report", &turns(), rounds);
     print_holds(rounds);
     print_replays(rounds);
-    print_texts(rounds);
 }

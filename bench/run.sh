@@ -1,7 +1,10 @@
 #!/usr/bin/env bash
-# Builds and runs the benchmark. A word is the number of rounds.
+# Builds and runs the benchmarks. A word is the number of rounds.
 set -eu
 cd "$(dirname "$0")/.."
 bash scripts/archive.sh
-rustc -C opt-level=3 --edition 2021 -D warnings -o target/bench bench/bench.rs -L native=target/staticlib -l static=warpmagpie
-target/bench "$@"
+for name in bench texts; do
+    rustc -C opt-level=3 --edition 2021 -D warnings -o target/$name bench/$name.rs -L native=target/staticlib \
+        -l static=warpmagpie
+    target/$name "$@"
+done

@@ -1,12 +1,28 @@
-//! Times of writing and shrinking a trace's text, a line, against the independent model of tests/host/model, a plain
-//! Rust program with vectors and `format!`. Both must come to the same text.
+//! `make bench`, second part: times of writing and shrinking a trace's text against the independent model of
+//! tests/host/model, a plain Rust program with vectors and `format!`. Both must come to the same text. It is a program
+//! of its own, since what else is linked decides where the archive's code comes to lie, and so what a clock costs.
 
-use crate::listing;
-use crate::shrinking;
-use crate::text;
-use crate::trace::Item;
-use crate::writing;
+#[allow(dead_code)]
+#[path = "../tests/host/model/listing.rs"]
+mod listing;
+#[allow(dead_code)]
+#[path = "../tests/host/model/shrinking.rs"]
+mod shrinking;
+#[allow(dead_code)]
+#[path = "../tests/host/replay/text.rs"]
+mod text;
+#[allow(dead_code)]
+#[path = "../tests/host/model/trace.rs"]
+mod trace;
+#[allow(dead_code)]
+#[path = "../tests/host/model/writing.rs"]
+mod writing;
+
 use std::time::Instant;
+use trace::Item;
+
+/// Rounds of each row, unless an argument says otherwise; the fastest counts.
+const ROUNDS: usize = 400;
 
 extern "C" {
     fn warpmagpie_trace_write(
@@ -72,15 +88,18 @@ fn clocks() -> Vec<Item> {
     (0..LINES).map(|_| Item::Clocks { levels: 17, clocks: 1 }).collect()
 }
 
-/// Each row's name, and ns a line of archive and model.
-pub fn rows(rounds: usize) -> [(&'static str, [f64; 2]); 4] {
+fn main() {
+    let rounds = std::env::args().nth(1).map_or(ROUNDS, |word| word.parse().expect("a number of rounds"));
     let [calls, clocks] = [calls(), clocks()];
     let write = |items: &[Item]| race(warpmagpie_trace_write, writing::written, &listing::list(items), rounds);
     let shrink = |items: &[Item]| race(warpmagpie_trace_shrink, shrinking::shrunk, &text::write(items), rounds);
-    [
+    println!("{:<46}{:>9}{:>9}{:>9}", "ns a line of a trace", "archive", "model", "ratio");
+    for (name, [archive, model]) in [
         ("written: calls, clocks between them", write(&calls)),
         ("written: a clock a line", write(&clocks)),
         ("shrunk: calls, nothing to join", shrink(&calls)),
         ("shrunk: a clock a line, all joined", shrink(&clocks)),
-    ]
+    ] {
+        println!("{name:<46}{archive:>9.1}{model:>9.1}{:>9.2}", archive / model);
+    }
 }
