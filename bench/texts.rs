@@ -2,6 +2,8 @@
 //! tests/host/model, a plain Rust program with vectors and `format!`. Both must come to the same text. It is a program
 //! of its own, since what else is linked decides where the archive's code comes to lie, and so what a clock costs.
 
+#[path = "../tests/host/traces/fill.rs"]
+mod fill;
 #[allow(dead_code)]
 #[path = "../tests/host/model/listing.rs"]
 mod listing;
@@ -24,38 +26,13 @@ use trace::Item;
 /// Rounds of each row, unless an argument says otherwise; the fastest counts.
 const ROUNDS: usize = 400;
 
-extern "C" {
-    fn warpmagpie_trace_write(
-        items: *const u8,
-        items_len: usize,
-        text: *mut u8,
-        text_len: usize,
-        length: *mut usize,
-    ) -> u8;
-    fn warpmagpie_trace_shrink(
-        text: *const u8,
-        text_len: usize,
-        shrunk: *mut u8,
-        shrunk_len: usize,
-        length: *mut usize,
-    ) -> u8;
-}
-
-type Call = unsafe extern "C" fn(*const u8, usize, *mut u8, usize, *mut usize) -> u8;
+/// A call of the archive: number and length.
+type Call = fn(&[u8], &mut [u8]) -> (u8, usize);
 
 /// Lines of each row.
 const LINES: u32 = 10_000;
 /// No line has more bytes.
 const LINE_LEN: usize = 16;
-
-/// The pointers come from slices that are borrowed for the call, with their own lengths.
-fn fill(call: Call, source: &[u8], buffer: &mut [u8]) -> usize {
-    let mut length = usize::MAX;
-    let number =
-        unsafe { call(source.as_ptr(), source.len(), buffer.as_mut_ptr(), buffer.len(), &mut length) };
-    assert_eq!(number, 0);
-    length
-}
 
 /// ns a line of archive and model.
 fn race(call: Call, model: fn(&[u8]) -> Option<Vec<u8>>, source: &[u8], rounds: usize) -> [f64; 2] {
@@ -63,11 +40,12 @@ fn race(call: Call, model: fn(&[u8]) -> Option<Vec<u8>>, source: &[u8], rounds: 
     let mut best = [f64::MAX; 2];
     for _ in 0..rounds {
         let begun = Instant::now();
-        let length = fill(call, source, &mut buffer);
+        let (number, length) = call(source, &mut buffer);
         let between = Instant::now();
         let wanted = model(source);
         best[1] = best[1].min(between.elapsed().as_nanos() as f64 / f64::from(LINES));
         best[0] = best[0].min((between - begun).as_nanos() as f64 / f64::from(LINES));
+        assert_eq!(number, 0);
         assert!(wanted.as_deref() == Some(&buffer[..length]), "a text: a difference");
     }
     best
@@ -91,8 +69,8 @@ fn clocks() -> Vec<Item> {
 fn main() {
     let rounds = std::env::args().nth(1).map_or(ROUNDS, |word| word.parse().expect("a number of rounds"));
     let [calls, clocks] = [calls(), clocks()];
-    let write = |items: &[Item]| race(warpmagpie_trace_write, writing::written, &listing::list(items), rounds);
-    let shrink = |items: &[Item]| race(warpmagpie_trace_shrink, shrinking::shrunk, &text::write(items), rounds);
+    let write = |items: &[Item]| race(fill::write, writing::written, &listing::list(items), rounds);
+    let shrink = |items: &[Item]| race(fill::shrink, shrinking::shrunk, &text::write(items), rounds);
     println!("{:<46}{:>9}{:>9}{:>9}", "ns a line of a trace", "archive", "model", "ratio");
     for (name, [archive, model]) in [
         ("written: calls, clocks between them", write(&calls)),

@@ -10,6 +10,9 @@ mod archive;
 mod changed;
 #[path = "traces/check.rs"]
 mod check;
+#[allow(dead_code)]
+#[path = "traces/fill.rs"]
+mod fill;
 #[path = "traces/gets.rs"]
 mod gets;
 #[path = "traces/index.rs"]

@@ -1,5 +1,4 @@
-// What the programs on a trace share: the file that an argument names, and numbers on standard output.
-use libc::STDOUT_FILENO;
+// What the programs on a trace share: the file that an argument names.
 ghost use Rattle.io.specs.Counts.{Counts};
 
 // The longest trace that a program takes (document 02, M-100).
@@ -18,14 +17,4 @@ pub fn read_file(text: &mut [u8]) -> usize
     let got = io::read_full(fd, text);
     libc::close(fd);
     got
-}
-
-pub fn print(words: &[u8]) {
-    io::write_all(STDOUT_FILENO, words);
-}
-
-pub fn print_decimal(n: u64) {
-    let mut digits = [0u8; 20];
-    let k = io::decimal(n, &mut digits);
-    print(&digits[..k]);
 }

@@ -2,9 +2,8 @@
 // refusal. A file that can't be read, or none, counts as empty; one of more than 65,536 bytes is only told to be long.
 // No trace comes out longer than it went in, so there is always room.
 use console::MOST;
-use console::print;
-use console::print_decimal;
 use console::read_file;
+use libc::STDOUT_FILENO;
 use trace::Filled;
 ghost use Prim.Native.Nat.{_≤_};
 ghost use lib.ListN.{length};
@@ -12,7 +11,7 @@ ghost use lib.ListN.{length};
 fn print_start(bytes: &[u8], n: usize)
     requires { ⌜ n ≤ length (now bytes) ⌝ }
 {
-    print(&bytes[..n]);
+    io::write_all(STDOUT_FILENO, &bytes[..n]);
 }
 
 fn print_shrunk(text: &[u8], buffer: &mut [u8]) {
@@ -21,8 +20,8 @@ fn print_shrunk(text: &[u8], buffer: &mut [u8]) {
             print_start(buffer, n);
         }
         Filled::Refused(r) => {
-            print_decimal(r.number() as u64);
-            print(b"\n");
+            io::print_decimal(STDOUT_FILENO, r.number() as u64);
+            io::write_all(STDOUT_FILENO, b"\n");
         }
     }
 }
@@ -31,7 +30,7 @@ fn main() {
     let mut text = [0u8; MOST + 1];
     let n = read_file(&mut text);
     if n > MOST {
-        print(b"long\n");
+        io::write_all(STDOUT_FILENO, b"long\n");
         return;
     }
     let mut buffer = [0u8; MOST];

@@ -1,26 +1,14 @@
 //! The archive's shrink of a trace (include/warpmagpie.h): each is its own shrunk form, but where a row of shown.txt
 //! looks at the record between two C lines that would else be one.
 
+use crate::fill;
 use crate::shown::{Row, Shows};
 use crate::trace::{Line, Trace};
 
-extern "C" {
-    fn warpmagpie_trace_shrink(
-        text: *const u8,
-        text_len: usize,
-        shrunk: *mut u8,
-        shrunk_len: usize,
-        length: *mut usize,
-    ) -> u8;
-}
-
-/// The shrunk text, which is never longer. The pointers come from slices that are borrowed for the call, with their own
-/// lengths.
+/// The shrunk text, which is never longer.
 fn shrunk(text: &[u8]) -> Result<Vec<u8>, String> {
-    let (mut shrunk, mut length) = (vec![0; text.len()], usize::MAX);
-    let number = unsafe {
-        warpmagpie_trace_shrink(text.as_ptr(), text.len(), shrunk.as_mut_ptr(), shrunk.len(), &mut length)
-    };
+    let mut shrunk = vec![0; text.len()];
+    let (number, length) = fill::shrink(text, &mut shrunk);
     if number != 0 {
         return Err(format!("its shrink is refused by {number}"));
     }

@@ -5,12 +5,11 @@ use crate::calls::{Call, Calls};
 use crate::damaged_lists::damaged_list;
 use crate::damaged_texts::damaged_text;
 use crate::listing::list;
-use crate::memory::Before;
 use crate::random::Random;
 use crate::random_items::random_items;
+use crate::sizes::every_size;
 use crate::tally::Tally;
 use crate::text::write;
-use crate::writing::MALFORMED;
 use crate::Part;
 
 pub const PART: Part = Part {
@@ -20,37 +19,29 @@ pub const PART: Part = Part {
 };
 
 const MOST_ITEMS: u64 = 6;
-const MORE: usize = 9;
 
 fn run(calls: &Calls, count: u64, random: &mut Random, tally: &mut Tally) -> Result<(), String> {
     for _ in 0..count {
         let items = random_items(random.below(MOST_ITEMS), random);
         let damaged = damaged_list(&list(&items), random);
-        with_every_size(calls, Call::Write, &damaged, random, tally)?;
+        where_refused(calls, Call::Write, &damaged, random, tally)?;
         let damaged = damaged_text(&write(&items), random);
-        with_every_size(calls, Call::Shrink, &damaged, random, tally)?;
+        where_refused(calls, Call::Shrink, &damaged, random, tally)?;
     }
     Ok(())
 }
 
 /// Damage may leave an input well-formed; that is no case for this part.
-fn with_every_size(
+fn where_refused(
     calls: &Calls,
     call: Call,
     input: &[u8],
     random: &mut Random,
     tally: &mut Tally,
 ) -> Result<(), String> {
-    if call.text(input).is_some() {
-        return Ok(());
+    if call.text(input).is_none() {
+        every_size(calls, call, input, random, tally)?;
+        tally.refused_at_every_size += 1;
     }
-    for room in 0..=input.len() + MORE {
-        let before = Before::random(input, room, random);
-        let answer = calls.compare_from(call, &before, None, tally)?;
-        if answer.number != MALFORMED {
-            return Err(format!("the model answers {}", answer.number));
-        }
-    }
-    tally.refused_at_every_size += 1;
     Ok(())
 }

@@ -8,7 +8,7 @@ use crate::random::Random;
 use crate::random_items::random_items;
 use crate::tally::Tally;
 use crate::text::write;
-use crate::writing::{DONE, ROOM};
+use crate::writing::{DONE, MALFORMED, ROOM};
 use crate::Part;
 
 pub const PART: Part = Part {
@@ -18,7 +18,7 @@ pub const PART: Part = Part {
 };
 
 const MOST_ITEMS: u64 = 12;
-/// Bytes more than the text has.
+/// Bytes more than the text has, or than the input where that is refused.
 const MORE: usize = 9;
 
 fn run(calls: &Calls, count: u64, random: &mut Random, tally: &mut Tally) -> Result<(), String> {
@@ -32,18 +32,24 @@ fn run(calls: &Calls, count: u64, random: &mut Random, tally: &mut Tally) -> Res
     Ok(())
 }
 
-fn every_size(
+/// Compares one input with a buffer of every size. A refused one has no text: then sizes round its own length are tried.
+pub fn every_size(
     calls: &Calls,
     call: Call,
     input: &[u8],
     random: &mut Random,
     tally: &mut Tally,
 ) -> Result<(), String> {
-    let text = call.text(input).ok_or("the items are in range")?;
-    for room in 0..=text.len() + MORE {
+    let text = call.text(input);
+    let length = text.as_ref().map_or(input.len(), Vec::len);
+    for room in 0..=length + MORE {
         let before = Before::random(input, room, random);
-        let answer = calls.compare_from(call, &before, Some(&text), tally)?;
-        let due = if room < text.len() { ROOM } else { DONE };
+        let answer = calls.compare_from(call, &before, text.as_deref(), tally)?;
+        let due = match text {
+            None => MALFORMED,
+            Some(_) if room < length => ROOM,
+            Some(_) => DONE,
+        };
         if answer.number != due {
             return Err(format!("{} bytes of room: model {}", room, answer.number));
         }
