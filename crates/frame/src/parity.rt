@@ -17,7 +17,7 @@ impl Format {
     }
 
     // The exclusive or of the data bits of x: the lowest bit of the count of ones among them.
-    pub fn even(self, x: u16) -> u16
+    fn even(self, x: u16) -> u16
         ensures { λ r. ⌜ r ≡ sumOfBits (dataBits (self .size)) x % 2 ⌝ }
         ensures { λ r. ⌜ r ≤ 1 ⌝ }
     {
