@@ -103,13 +103,18 @@ impl Format {
         (1 << self.word_bits()) - 1
     }
 
-    /// The data with its parity bit above it, if parity is on.
+    /// Document 01: 'even: exclusive or of the data bits', here one after the other. No other bit is looked at.
+    /// Not by `count_ones`: the library under test takes parity from the processor's count (M-102).
+    fn even_parity(&self, data: u16) -> u16 {
+        (0..self.data_bits).fold(0, |parity, bit| parity ^ (data >> bit & 1))
+    }
+
+    /// The data with its parity bit above it, if parity is on; 'odd: the opposite'.
     pub fn word_of(&self, data: u16) -> u16 {
-        let ones = (data.count_ones() & 1) as u16;
         match self.parity {
             Parity::Off => data,
-            Parity::Even => data | ones << self.data_bits,
-            Parity::Odd => data | (ones ^ 1) << self.data_bits,
+            Parity::Even => data | self.even_parity(data) << self.data_bits,
+            Parity::Odd => data | (self.even_parity(data) ^ 1) << self.data_bits,
         }
     }
 }
