@@ -32,10 +32,11 @@ impl Format {
         ensures { λ r. ⌜ r ≤ 1 ⌝ }
     {
         let p = self.parity;
+        let e = self.even(x);
         match p {
             Parity::Off => 0,
-            Parity::Even => self.even(x),
-            Parity::Odd => 1 - self.even(x),
+            Parity::Even => e,
+            Parity::Odd => 1 - e,
         }
     }
 }
