@@ -24,6 +24,8 @@ mod halves;
 mod itself;
 #[path = "baud/mixed.rs"]
 mod mixed;
+#[path = "compare/parts.rs"]
+mod parts;
 #[path = "compare/random.rs"]
 mod random;
 #[path = "baud/rows.rs"]
@@ -52,13 +54,8 @@ const ARCHIVE: Calls = Calls {
     check: archive::check,
 };
 
-/// One kind of inputs, and how many rounds of them are done at scale 1.
-#[derive(Clone, Copy)]
-struct Part {
-    name: &'static str,
-    run: fn(&Calls, u64, &mut Random, &mut Tally) -> Result<(), String>,
-    rounds: u64,
-}
+type Run = fn(&Calls, u64, &mut Random, &mut Tally) -> Result<(), String>;
+type Part = parts::Part<Run>;
 
 const PARTS: [Part; 8] = [
     examples::PART,
@@ -77,12 +74,9 @@ fn main() {
 
 fn compare_all(seed: u64, scale: u64) -> Result<(), String> {
     let mut tally = Tally::default();
-    for (number, part) in PARTS.iter().enumerate() {
-        // A part's own random numbers, so that a change in one leaves the others alone.
-        let mut random = Random::new(seed.wrapping_mul(8).wrapping_add(number as u64));
-        (part.run)(&ARCHIVE, part.rounds * scale, &mut random, &mut tally)
-            .map_err(|text| format!("{}: {text}", part.name))?;
-    }
+    parts::all(&PARTS, seed, |run, rounds, random| {
+        run(&ARCHIVE, rounds * scale, random, &mut tally)
+    })?;
     tally.complete()?;
     let wrong = wrong::all_are_seen(seed)?;
     tally.print(wrong);

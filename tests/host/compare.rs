@@ -47,6 +47,8 @@ mod levels;
 mod lines;
 #[path = "compare/pair.rs"]
 mod pair;
+#[path = "compare/parts.rs"]
+mod parts;
 #[path = "compare/random.rs"]
 mod random;
 #[path = "compare/rates.rs"]
@@ -65,17 +67,19 @@ use tally::Tally;
 
 const SEED: u64 = 20240328;
 
-type Part = fn(u64, &mut Random, &mut Tally) -> Result<(), String>;
+type Run = fn(u64, &mut Random, &mut Tally) -> Result<(), String>;
+type Part = parts::Part<Run>;
 
-/// The parts, and how many histories, devices, records or rounds each does at scale 1.
-const PARTS: [(&str, Part, u64); 7] = [
-    ("random histories", histories::run, 36_000),
-    ("random valid devices", devices::run, 1_400_000),
-    ("damaged records", damage::run, 4_500_000),
-    ("lines at the limits", lines::run, 35),
-    ("devices joined by wires", wires::run, 35),
-    ("records that break one rule", broken::run, 10_000),
-    ("long holds", holds::run, 1),
+/// A round is a history, a device, a record, or some of them.
+#[rustfmt::skip] // a line each
+const PARTS: [Part; 7] = [
+    Part { name: "random histories", run: histories::run, rounds: 36_000 },
+    Part { name: "random valid devices", run: devices::run, rounds: 1_400_000 },
+    Part { name: "damaged records", run: damage::run, rounds: 4_500_000 },
+    Part { name: "lines at the limits", run: lines::run, rounds: 35 },
+    Part { name: "devices joined by wires", run: wires::run, rounds: 35 },
+    Part { name: "records that break one rule", run: broken::run, rounds: 10_000 },
+    Part { name: "long holds", run: holds::run, rounds: 1 },
 ];
 
 fn main() {
@@ -84,12 +88,7 @@ fn main() {
 
 fn compare_all(seed: u64, scale: u64) -> Result<(), String> {
     let mut tally = Tally::default();
-    for (number, (name, part, count)) in PARTS.iter().enumerate() {
-        // A part's own random numbers, so that a change in one leaves the others alone.
-        let mut random = Random::new(seed.wrapping_mul(8).wrapping_add(number as u64));
-        part(count * scale, &mut random, &mut tally)
-            .map_err(|text| format!("part {} ({name}): {text}", number + 1))?;
-    }
+    parts::all(&PARTS, seed, |run, rounds, random| run(rounds * scale, random, &mut tally))?;
     tally.complete()?;
     tally.wrong_holds = wrong_holds::all_are_seen(seed)?;
     println!("{:34}{seed:>12}", "seed");

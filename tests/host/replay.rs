@@ -49,6 +49,8 @@ mod numbers;
 mod otherwise;
 #[path = "replay/prefixes.rs"]
 mod prefixes;
+#[path = "compare/parts.rs"]
+mod parts;
 #[path = "compare/random.rs"]
 mod random;
 #[path = "replay/recorded.rs"]
@@ -94,23 +96,8 @@ use tally::Tally;
 
 const SEED: u64 = 20240927;
 
-/// One kind of texts, and how many rounds of them are done at scale 1.
-#[derive(Clone, Copy)]
-struct Part {
-    name: &'static str,
-    run: fn(Program, u64, &mut Random, &mut Tally) -> Result<(), String>,
-    rounds: u64,
-}
-
-impl Part {
-    /// A part's own random numbers, so that a change in one leaves the others alone, and wrong programs get the very
-    /// texts that the archive got.
-    fn random(&self, seed: u64) -> Random {
-        let number = PARTS.iter().position(|part| part.name == self.name);
-        let number = number.expect("each part is in the list") as u64;
-        Random::new(seed.wrapping_mul(16).wrapping_add(number))
-    }
-}
+type Run = fn(Program, u64, &mut Random, &mut Tally) -> Result<(), String>;
+type Part = parts::Part<Run>;
 
 const PARTS: [Part; 9] = [
     examples::PART,
@@ -130,16 +117,9 @@ fn main() {
 
 fn compare_all(seed: u64, scale: u64) -> Result<(), String> {
     let mut tally = Tally::default();
-    for part in &PARTS {
-        let mut random = part.random(seed);
-        (part.run)(
-            archive::replay,
-            part.rounds * scale,
-            &mut random,
-            &mut tally,
-        )
-        .map_err(|text| format!("{}: {text}", part.name))?;
-    }
+    parts::all(&PARTS, seed, |run, rounds, random| {
+        run(archive::replay, rounds * scale, random, &mut tally)
+    })?;
     tally.complete()?;
     right::none_is_seen(seed)?;
     let wrong = wrong::all_are_seen(seed)?;

@@ -71,6 +71,8 @@ mod otherwise;
 mod parted;
 #[path = "writing/pieces.rs"]
 mod pieces;
+#[path = "compare/parts.rs"]
+mod parts;
 #[path = "compare/random.rs"]
 mod random;
 #[path = "writing/random_items.rs"]
@@ -121,23 +123,8 @@ const ARCHIVE: Calls = Calls {
     shrink: &archive::shrink,
 };
 
-/// One kind of lists and texts, and how many rounds of them are done at scale 1.
-#[derive(Clone, Copy)]
-struct Part {
-    name: &'static str,
-    run: fn(&Calls, u64, &mut Random, &mut Tally) -> Result<(), String>,
-    rounds: u64,
-}
-
-impl Part {
-    /// A part's own random numbers, so that a change in one leaves the others alone, and wrong programs get the very
-    /// inputs that the archive got.
-    fn random(&self, seed: u64) -> Random {
-        let number = PARTS.iter().position(|part| part.name == self.name);
-        let number = number.expect("each part is in the list") as u64;
-        Random::new(seed.wrapping_mul(16).wrapping_add(number))
-    }
-}
+type Run = fn(&Calls, u64, &mut Random, &mut Tally) -> Result<(), String>;
+type Part = parts::Part<Run>;
 
 const PARTS: [Part; 13] = [
     examples::PART,
@@ -161,11 +148,9 @@ fn main() {
 
 fn compare_all(seed: u64, scale: u64) -> Result<(), String> {
     let mut tally = Tally::default();
-    for part in &PARTS {
-        let mut random = part.random(seed);
-        (part.run)(&ARCHIVE, part.rounds * scale, &mut random, &mut tally)
-            .map_err(|text| format!("{}: {text}", part.name))?;
-    }
+    parts::all(&PARTS, seed, |run, rounds, random| {
+        run(&ARCHIVE, rounds * scale, random, &mut tally)
+    })?;
     tally.complete()?;
     right::is_not_seen(seed)?;
     let wrong = wrong::all_are_seen(seed)?;

@@ -2,11 +2,11 @@
 
 use crate::calls::Calls;
 use crate::model::{Plan, Verdict, Wanted};
-use crate::random::Random;
+use crate::parts;
 use crate::tally::Tally;
 use crate::wrong_checks::WRONG_CHECKS;
 use crate::wrong_plans::WRONG_PLANS;
-use crate::Part;
+use crate::{Part, PARTS};
 
 pub type WrongPlan = (&'static str, fn(&Wanted, Plan) -> Plan, Part);
 pub type WrongCheck = (&'static str, fn(&Wanted, u32, Verdict) -> Verdict, Part);
@@ -20,21 +20,16 @@ const RIGHT: Calls = Calls {
 /// Answers how many there are.
 pub fn all_are_seen(seed: u64) -> Result<usize, String> {
     for (name, plan, part) in WRONG_PLANS {
-        is_seen(name, &Calls { plan, ..RIGHT }, part, seed)?;
+        is_seen(name, &Calls { plan, ..RIGHT }, &part, seed)?;
     }
     for (name, check, part) in WRONG_CHECKS {
-        is_seen(name, &Calls { check, ..RIGHT }, part, seed)?;
+        is_seen(name, &Calls { check, ..RIGHT }, &part, seed)?;
     }
     Ok(WRONG_PLANS.len() + WRONG_CHECKS.len())
 }
 
-fn is_seen(name: &str, calls: &Calls, part: Part, seed: u64) -> Result<(), String> {
-    let mut random = Random::new(seed);
-    match (part.run)(calls, part.rounds, &mut random, &mut Tally::default()) {
-        Err(_) => Ok(()),
-        Ok(()) => Err(format!(
-            "{} do not see what is wrong with: {name}",
-            part.name
-        )),
-    }
+fn is_seen(name: &str, calls: &Calls, part: &Part, seed: u64) -> Result<(), String> {
+    parts::is_seen(name, part, &PARTS, seed, |run, rounds, random| {
+        run(calls, rounds, random, &mut Tally::default())
+    })
 }

@@ -2,6 +2,7 @@
 //! program is seen for what is wrong with it.
 
 use crate::calls::Program;
+use crate::parts;
 use crate::tally::Tally;
 use crate::wrong_texts::{of_fields, of_lines, of_numbers};
 use crate::wrong_walks::{by, play};
@@ -20,16 +21,10 @@ const RIGHT: [(&str, Program); 4] = [
 
 pub fn none_is_seen(seed: u64) -> Result<(), String> {
     for (name, program) in RIGHT {
-        for part in PARTS {
-            let rounds = part.rounds.div_ceil(FEWER);
-            (part.run)(
-                program,
-                rounds,
-                &mut part.random(seed),
-                &mut Tally::default(),
-            )
-            .map_err(|text| format!("{}, {name} with nothing wrong: {text}", part.name))?;
-        }
+        parts::all(&PARTS, seed, |run, rounds, random| {
+            run(program, rounds.div_ceil(FEWER), random, &mut Tally::default())
+        })
+        .map_err(|text| format!("{name} with nothing wrong, {text}"))?;
     }
     Ok(())
 }

@@ -1,6 +1,7 @@
 //! Programs that are wrong on purpose: the part that is named has to see a difference, else the test could not fail.
 
 use crate::calls::Program;
+use crate::parts;
 use crate::tally::Tally;
 use crate::wrong_answers::WRONG_ANSWERS;
 use crate::wrong_compares::WRONG_COMPARES;
@@ -9,7 +10,7 @@ use crate::wrong_left::WRONG_LEFT;
 use crate::wrong_lines::WRONG_LINES;
 use crate::wrong_numbers::WRONG_NUMBERS;
 use crate::wrong_plays::WRONG_PLAYS;
-use crate::Part;
+use crate::{Part, PARTS};
 
 pub type Wrong = (&'static str, Program, Part);
 
@@ -26,13 +27,9 @@ pub fn all_are_seen(seed: u64) -> Result<usize, String> {
     ]
     .concat();
     for (name, program, part) in &all {
-        let mut random = part.random(seed);
-        if (part.run)(*program, part.rounds, &mut random, &mut Tally::default()).is_ok() {
-            return Err(format!(
-                "{} do not see what is wrong with: {name}",
-                part.name
-            ));
-        }
+        parts::is_seen(name, part, &PARTS, seed, |run, rounds, random| {
+            run(*program, rounds, random, &mut Tally::default())
+        })?;
     }
     Ok(all.len())
 }

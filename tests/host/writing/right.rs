@@ -3,6 +3,7 @@
 
 use crate::calls::Calls;
 use crate::means::{SHRINKER, WRITER};
+use crate::parts;
 use crate::tally::Tally;
 use crate::PARTS;
 
@@ -15,11 +16,8 @@ pub const RIGHT: Calls = Calls {
 const FEWER: u64 = 50;
 
 pub fn is_not_seen(seed: u64) -> Result<(), String> {
-    for part in PARTS {
-        let rounds = part.rounds.div_ceil(FEWER);
-        let mut random = part.random(seed);
-        (part.run)(&RIGHT, rounds, &mut random, &mut Tally::default())
-            .map_err(|text| format!("{}, with nothing wrong: {text}", part.name))?;
-    }
-    Ok(())
+    parts::all(&PARTS, seed, |run, rounds, random| {
+        run(&RIGHT, rounds.div_ceil(FEWER), random, &mut Tally::default())
+    })
+    .map_err(|text| format!("nothing wrong, {text}"))
 }

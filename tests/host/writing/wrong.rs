@@ -2,6 +2,7 @@
 
 use crate::calls::Calls;
 use crate::means::{Put, Shrinker, Writer, SHRINKER, WRITER};
+use crate::parts;
 use crate::right::RIGHT;
 use crate::tally::Tally;
 use crate::wrong_items::WRONG_ITEMS;
@@ -10,7 +11,7 @@ use crate::wrong_order::{WRONG_SHRINK_ORDERS, WRONG_WRITE_ORDERS};
 use crate::wrong_puts::WRONG_PUTS;
 use crate::wrong_reads::WRONG_READS;
 use crate::wrong_sums::WRONG_SUMS;
-use crate::Part;
+use crate::{Part, PARTS};
 
 pub type WrongWriter = (&'static str, Writer, Part);
 pub type WrongShrinker = (&'static str, Shrinker, Part);
@@ -34,12 +35,7 @@ pub fn all_are_seen(seed: u64) -> Result<usize, String> {
 }
 
 fn is_seen(name: &str, calls: &Calls, part: &Part, seed: u64) -> Result<(), String> {
-    let mut random = part.random(seed);
-    match (part.run)(calls, part.rounds, &mut random, &mut Tally::default()) {
-        Err(_) => Ok(()),
-        Ok(()) => Err(format!(
-            "{} do not see what is wrong with: {name}",
-            part.name
-        )),
-    }
+    parts::is_seen(name, part, &PARTS, seed, |run, rounds, random| {
+        run(calls, rounds, random, &mut Tally::default())
+    })
 }
