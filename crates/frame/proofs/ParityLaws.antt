@@ -5,7 +5,7 @@ use native.Mathlib.Nat.{le-trans, le-of-eq, mod-lt, pow-suc}
 use native.Mathlib.Numerals.{add-one}
 use native.Mathlib.Omega.{arith}
 use lib.Arith.{lt-one}
-use lib.Count.{ones, ones-step}
+use lib.Count.{ones, onesIn, ones-step}
 use lib.Dec.{lit≤}
 use lib.Pow.{mod-mod-pow, field, pow-pos}
 use Rattle.frame.specs.Format.{dataBits}
@@ -39,6 +39,12 @@ pub ones-masked : (n x d : ℕ) → d ≡ x % 2 ^ n → ones d % 2 ≡ sumOfBits
 ones-masked n x d e =
     ones-parity n d (le-trans (le-of-eq (ap suc e)) (mod-lt x (pow-pos n))) ∙ ap (λ (m : ℕ). sumOfBits n m % 2) e
     ∙ ap (λ (s : ℕ). s % 2) (sum-masked n x)
+
+-- The data bits and no others. Of 256, which is TXB8 with all else clear, eight data bits have parity 0 and nine have 1;
+-- so to count all of its ones is wrong for eight, and to count those of its low byte, 0, is wrong for nine.
+pub ninth-bit : (sumOfBits 8 256 % 2 ≡ 0) × (sumOfBits 9 256 % 2 ≡ 1) × (ones 256 % 2 ≡ 1) × (ones (256 % 256) % 2 ≡ 0)
+unfolding ones onesIn sumOfBits
+ninth-bit = (refl, refl, refl, refl)
 
 -- the parity bit of data is that of the data with its other bits cut off
 pub parity-masked : (p : Parity) (n x : ℕ) → parityIn p n (x % 2 ^ n) ≡ parityIn p n x
