@@ -40,8 +40,8 @@ ones-masked n x d e =
     ones-parity n d (le-trans (le-of-eq (ap suc e)) (mod-lt x (pow-pos n))) ∙ ap (λ (m : ℕ). sumOfBits n m % 2) e
     ∙ ap (λ (s : ℕ). s % 2) (sum-masked n x)
 
--- The data bits and no others. Of 256, which is TXB8 with all else clear, eight data bits have parity 0 and nine have 1;
--- so to count all of its ones is wrong for eight, and to count those of its low byte, 0, is wrong for nine.
+-- The data bits and no others. Of 256, which is TXB8 with all else clear, eight data bits have parity 0, nine have 1:
+-- to count all of its ones is wrong for eight, and to count those of its low byte, 0, is wrong for nine.
 pub ninth-bit : (sumOfBits 8 256 % 2 ≡ 0) × (sumOfBits 9 256 % 2 ≡ 1) × (ones 256 % 2 ≡ 1) × (ones (256 % 256) % 2 ≡ 0)
 unfolding ones onesIn sumOfBits
 ninth-bit = (refl, refl, refl, refl)
