@@ -25,8 +25,8 @@ extern "C" {
 /* Of header, archive and pkg-config file. MAJOR rises where a rig may have to change its code or drop its stored
    records, MINOR where there is more than before, PATCH with any other change. WARPMAGPIE_VERSION is for #if. */
 #define WARPMAGPIE_VERSION_MAJOR 2
-#define WARPMAGPIE_VERSION_MINOR 4
-#define WARPMAGPIE_VERSION_PATCH 1
+#define WARPMAGPIE_VERSION_MINOR 5
+#define WARPMAGPIE_VERSION_PATCH 0
 #define WARPMAGPIE_VERSION \
     (WARPMAGPIE_VERSION_MAJOR * 10000 + WARPMAGPIE_VERSION_MINOR * 100 + WARPMAGPIE_VERSION_PATCH)
 
@@ -177,6 +177,12 @@ uint8_t warpmagpie_hold(uint8_t *record, size_t record_len, uint8_t level, uint3
 /* Reports the interrupt requests into *requests. Answers 0 or 5; *requests is 0 on a refusal. The record is not
    changed. */
 uint8_t warpmagpie_requests(const uint8_t *record, size_t record_len, uint8_t *requests);
+
+/* Puts into *count the split votes of the oldest frame held, the one that the next read of UDR0 takes away: at how many
+   of its bits, start bit, data, parity and first stop bit, the three voting samples were not all alike. 0 to 12, and 0
+   if no frame is held. As with FE, DOR and UPE, ask before UDR0 is read. Answers 0 or 5; *count is 0 on a refusal. The
+   record is not changed. */
+uint8_t warpmagpie_split_votes(const uint8_t *record, size_t record_len, uint8_t *count);
 
 /* Replays a bench trace: makes the record that of a device after reset, whatever its bytes were, and then each call of
    the trace, whose answer is compared with the one recorded.

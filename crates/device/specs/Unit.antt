@@ -1,9 +1,11 @@
--- The device at reset and at a clock, its output byte and its requests (document 01, 'SPI', level byte; 'Receiver').
+-- The device at reset and at a clock, its output byte and its requests (document 01, 'SPI', level byte; 'Receiver'), and
+-- the split votes of its oldest frame (document 02, M-101).
 use Prim.Native.Nat.{ℕ, _+_, _*_, _/_, _%_}
 use mathlib.Core.Bool.{Bool}
 use lib.Dec.{eqb}
 use Rattle.choice.specs.Bit.{isSet}
 use Rattle.usart.specs.Unit.{resetUsart, clockOf as serialClock, outputOf as serialOutput, requestsOf as serialRequests}
+use Rattle.usart.specs.Read.{splitVotes as serialSplitVotes}
 use Rattle.usart.specs.declared.unit.Usart.{Usart}
 use Rattle.spi.specs.Unit.{resetSpi, outputOf as spiOutput, requestsOf as spiRequests}
 use Rattle.spi.specs.Clock.{clockOf as spiClock}
@@ -51,3 +53,6 @@ clockedOf d level = record { device = clockOf d level; output = outputOf (clockO
 -- requests: RXC with RXCIE, UDRE with UDRIE, TXC with TXCIE, SPIF with SPIE, bits 0 to 3 of the report
 abbrev pub requestsOf : Device → ℕ
 requestsOf d = serialRequests (d .usart) + spiRequests (d .spi)
+
+abbrev pub splitVotes : Device → ℕ
+splitVotes d = serialSplitVotes (d .usart)

@@ -6,7 +6,7 @@ use spi::Levels;
 use spi::Spi;
 use usart::Usart;
 ghost use mathlib.Core.Path.{_≡_};
-ghost use Rattle.device.specs.Unit.{resetDevice, afterOf, withUsart, withSpi, levelsIn, outputOf, requestsOf};
+ghost use Rattle.device.specs.Unit.{resetDevice, afterOf, withUsart, withSpi, levelsIn, outputOf, requestsOf, splitVotes};
 ghost use Rattle.device.specs.Register.{resetAt, serialWritten, spiWritten, writeOf, serialRead, spiRead, readOf, vectorOf};
 
 pub struct Device {
@@ -154,5 +154,12 @@ impl Device {
         ensures { λ r. ⌜ r ≡ requestsOf self ⌝ }
     {
         self.usart.requests() + self.spi.requests()
+    }
+
+    // The split votes of the oldest frame held.
+    pub fn split_votes(self) -> u8
+        ensures { λ r. ⌜ r ≡ splitVotes self ⌝ }
+    {
+        self.usart.split_votes()
     }
 }

@@ -1,16 +1,18 @@
--- The majority of three.
-use mathlib.Core.Bool.{Bool, true, false}
+-- The decision of three samples.
+use mathlib.Core.Bool.{Bool, true, false, Bool·beq}
 use mathlib.Core.Path.{_≡_, refl}
 use Rattle.choice.specs.Pick.{pick}
-use Rattle.frame.specs.Vote.{majorityOf}
+use Rattle.frame.specs.Vote.{voteOf}
+use Rattle.frame.specs.declared.vote.Vote.{Vote}
 
--- by two tests
-pub majority-picks : (a b c : Bool) → pick a (pick b true c) (pick b c false) ≡ majorityOf a b c
-majority-picks true true true = refl
-majority-picks true true false = refl
-majority-picks true false true = refl
-majority-picks true false false = refl
-majority-picks false true true = refl
-majority-picks false true false = refl
-majority-picks false false true = refl
-majority-picks false false false = refl
+-- where the first two agree they decide, else the third does
+pub vote-picks : (a b c : Bool)
+    → pick (Bool·beq a b) (record { level = a; unanimous = Bool·beq a c }) (record { level = c; unanimous = false }) ≡ voteOf a b c
+vote-picks true true true = refl
+vote-picks true true false = refl
+vote-picks true false true = refl
+vote-picks true false false = refl
+vote-picks false true true = refl
+vote-picks false true false = refl
+vote-picks false false true = refl
+vote-picks false false false = refl

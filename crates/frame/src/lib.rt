@@ -8,4 +8,5 @@ mod word;
 pub use format::Format;
 pub use format::Parity;
 pub use format::Size;
+pub use vote::Vote;
 pub use vote::majority;

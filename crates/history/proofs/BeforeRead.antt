@@ -1,5 +1,6 @@
--- RXB8, FE, DOR and UPE are those of the frame that the next read of UDR0 takes away, so they are looked at just before
--- it: a record that holds two frames of nine bits, the first with its ninth bit set, the second with the other flags.
+-- RXB8, FE, DOR, UPE and the split votes are those of the frame that the next read of UDR0 takes away, so they are
+-- looked at just before it: a record that holds two frames of nine bits, the first with its ninth bit set, the second
+-- with the other flags, each with a count of its own.
 use mathlib.Core.Bool.{true, false}
 use mathlib.Core.Path.{_≡_, refl}
 use Rattle.frame.specs.declared.format.Size.the-variants.{Nine}
@@ -17,7 +18,7 @@ use Rattle.record.specs.Codec.{recordOf, decodeOf}
 use Rattle.record.specs.Codes.{flagOf}
 use Rattle.record.specs.Parts.{bufferFrom, shifterFrom, samplerFrom, placesFrom}
 use Rattle.record.specs.Accepts.{isWithin, counterFits, bufferFits, shifterFits, samplerFits, placesFit, enabledFits, usartFits, spiFits, accepts, isRecord}
-use Rattle.warpmagpie.specs.Calls.{readOn}
+use Rattle.warpmagpie.specs.Calls.{readOn, queryValueOn}
 use Rattle.history.specs.Call.{recordAfter, read}
 use Rattle.history.specs.Receiving.{seenBy}
 
@@ -31,7 +32,8 @@ twoHeld = record {
     receiver = record {
       sampler = Idle true;
       queue = record {
-        places = Two (record { «data» = 0x155; fe = false; upe = false; dor = false }) (record { «data» = 0x0AA; fe = true; upe = true; dor = true });
+        places = Two (record { «data» = 0x155; fe = false; upe = false; dor = false; splits = 3 })
+            (record { «data» = 0x0AA; fe = true; upe = true; dor = true; splits = 12 });
         lost = false;
       };
     };
@@ -40,11 +42,11 @@ twoHeld = record {
 }
 
 -- just before the read: the first frame's
-pub seen-before : seenBy (recordOf twoHeld) ≡ record { value = 0x55; rxb8 = 1; fe = 0; dor = 0; upe = 0 }
-unfolding twoHeld decodeOf recordOf isWithin counterFits bufferFits shifterFits samplerFits placesFit enabledFits usartFits spiFits accepts isRecord flagOf bufferFrom shifterFrom samplerFrom placesFrom sizeOf parityOf divisorNumber readOn placeOf
+pub seen-before : seenBy (recordOf twoHeld) ≡ record { value = 0x55; rxb8 = 1; fe = 0; dor = 0; upe = 0; splits = 3 }
+unfolding twoHeld decodeOf recordOf isWithin counterFits bufferFits shifterFits samplerFits placesFit enabledFits usartFits spiFits accepts isRecord flagOf bufferFrom shifterFrom samplerFrom placesFrom sizeOf parityOf divisorNumber readOn queryValueOn placeOf
 seen-before = refl
 
 -- after it: the next one's
-pub seen-after : seenBy (recordAfter (recordOf twoHeld) (read 0xC6)) ≡ record { value = 0xAA; rxb8 = 0; fe = 1; dor = 1; upe = 1 }
-unfolding twoHeld decodeOf recordOf isWithin counterFits bufferFits shifterFits samplerFits placesFit enabledFits usartFits spiFits accepts isRecord flagOf bufferFrom shifterFrom samplerFrom placesFrom sizeOf parityOf divisorNumber readOn placeOf
+pub seen-after : seenBy (recordAfter (recordOf twoHeld) (read 0xC6)) ≡ record { value = 0xAA; rxb8 = 0; fe = 1; dor = 1; upe = 1; splits = 12 }
+unfolding twoHeld decodeOf recordOf isWithin counterFits bufferFits shifterFits samplerFits placesFit enabledFits usartFits spiFits accepts isRecord flagOf bufferFrom shifterFrom samplerFrom placesFrom sizeOf parityOf divisorNumber readOn queryValueOn placeOf
 seen-after = refl

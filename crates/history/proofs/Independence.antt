@@ -8,7 +8,7 @@ use lib.Dec.{eqb}
 use lib.ListN.{length}
 use Rattle.choice.specs.Pick.{pick}
 use Rattle.usart.specs.Event.{Event, clock, write as writes, read as reads, vector as takes, nextOf, finalOf}
-use Rattle.usart.specs.Read.{readOf as serialReadOf}
+use Rattle.usart.specs.Read.{splitVotes as serialSplitVotes, readOf as serialReadOf}
 use Rattle.usart.specs.Sending.{outputsOf as outputsAt}
 use Rattle.usart.specs.Unit.{clockOf, outputOf, requestsOf as serialRequests, resetUsart}
 use Rattle.usart.specs.Write.{writeOf as serialWriteOf, vectorOf as serialVectorOf}
@@ -19,7 +19,7 @@ use Rattle.device.specs.Address.{placeOf}
 use Rattle.device.specs.Outcome.{answerOf, readAnswerOf, valueOf}
 use Rattle.device.specs.Register.{serialWritten, spiWritten, writeIn, readIn, vectorOf}
 use Rattle.device.specs.Serial.{isSerial, clocksOf, writesAt, readsAt, vectorsAt}
-use Rattle.device.specs.Unit.{rxdIn}
+use Rattle.device.specs.Unit.{rxdIn, requestsOf, splitVotes}
 use Rattle.device.specs.declared.address.Place.{Place}
 use Rattle.device.specs.declared.address.Place.the-variants.{Serial, Spi, Nowhere}
 use Rattle.answer.specs.declared.Refusal.the-variants.{Unknown}
@@ -34,7 +34,7 @@ use Rattle.record.specs.Codec.{decodeOf}
 use Rattle.record.specs.declared.codec.Decoded.{Decoded}
 use Rattle.record.specs.declared.codec.Decoded.the-variants.{Accepted}
 use Rattle.record.proofs.Round.{decode-length}
-use Rattle.warpmagpie.specs.Calls.{requestsValueOn}
+use Rattle.warpmagpie.specs.Calls.{queryValueOn, splitVotesValue}
 use Rattle.history.specs.Call.{Call, reset, write, read, vector, pass, effect, recordAfter, finalRecord, along, Bytes, usartOf}
 use Rattle.history.specs.Serial.{Serial as Part, event, resets, serialPart, serialParts, Answer, number, value, txd, serialAnswer, requestBits, Alike, Agree}
 use Rattle.history.proofs.StepLaws.{nextDevice, reset-done, write-on, read-on, vector-on, induct}
@@ -140,12 +140,21 @@ final-parts =
 
 -- request bits 0 to 2 are those of the serial unit
 bits-of : (s : List ℕ) (d : Device) → decodeOf s ≡ Accepted d → requestBits s ≡ serialRequests (usartOf s)
-unfolding requestsValueOn
-bits-of s d h = ap (λ (x : Decoded). requestsValueOn x % 8) h ∙ requests-serial d ∙ sym (ap serialRequests (usart-is s d h))
+unfolding queryValueOn
+bits-of s d h = ap (λ (x : Decoded). queryValueOn requestsOf x % 8) h ∙ requests-serial d ∙ sym (ap serialRequests (usart-is s d h))
 
 final-bits : (s : List ℕ) (d : Device) (cs : List Call) → decodeOf s ≡ Accepted d → Bytes cs
     → requestBits (finalRecord s cs) ≡ serialRequests (usartOf (finalRecord s cs))
 final-bits = induct (λ s cs. requestBits (finalRecord s cs) ≡ serialRequests (usartOf (finalRecord s cs))) bits-of (λ s d h c cs e k. k)
+
+-- so are the split votes
+splits-of : (s : List ℕ) (d : Device) → decodeOf s ≡ Accepted d → splitVotesValue s ≡ serialSplitVotes (usartOf s)
+unfolding queryValueOn
+splits-of s d h = ap (queryValueOn splitVotes) h ∙ sym (ap serialSplitVotes (usart-is s d h))
+
+final-splits : (s : List ℕ) (d : Device) (cs : List Call) → decodeOf s ≡ Accepted d → Bytes cs
+    → splitVotesValue (finalRecord s cs) ≡ serialSplitVotes (usartOf (finalRecord s cs))
+final-splits = induct (λ s cs. splitVotesValue (finalRecord s cs) ≡ serialSplitVotes (usartOf (finalRecord s cs))) splits-of (λ s d h c cs e k. k)
 
 pub independent : (d e : Device) (s t : List ℕ) (cs ds : List Call) → Alike d e s t cs ds → Agree s t cs ds
 independent d e s t cs ds a =
@@ -157,6 +166,8 @@ independent d e s t cs ds a =
           answers-view s d cs (a .first) (a .bytes) 0 ∙ ap₂ answersAt one (a .same) ∙ sym (answers-view t e ds (a .second) (a .bytesToo) 0);
       requests =
           final-bits s d cs (a .first) (a .bytes) ∙ ap serialRequests final ∙ sym (final-bits t e ds (a .second) (a .bytesToo));
+      splits =
+          final-splits s d cs (a .first) (a .bytes) ∙ ap serialSplitVotes final ∙ sym (final-splits t e ds (a .second) (a .bytesToo));
       final = final;
     }
 
@@ -165,7 +176,7 @@ bytes-first [] ds p = tt
 bytes-first (c ∷ cs) ds p = (p .0, bytes-first cs ds (p .1))
 
 -- .. and at every place inside: wherever the two stand after equal serial parts, with calls still to come, they agree
--- so far, and so do reports at that place
+-- so far, and so do queries at that place
 pub independent-inside : (d e : Device) (s t : List ℕ) (cs cs′ ds ds′ : List Call) → Alike d e s t (cs ++ cs′) (ds ++ ds′) → serialParts s cs ≡ serialParts t ds
     → Agree s t cs ds
 independent-inside d e s t cs cs′ ds ds′ a same =

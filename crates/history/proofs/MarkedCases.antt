@@ -17,7 +17,7 @@ use Rattle.usart.specs.Line.{lineLevel}
 use Rattle.usart.specs.Marked.{sending as unitSending, statusBits as unitBits}
 use Rattle.usart.specs.Read.{ucsr0a}
 use Rattle.usart.specs.Receiver.{listenedOf, enabledOf}
-use Rattle.usart.specs.Sampler.{idleOf, castOf, nextBitOf, shiftedOf, decidedOf, votedOf, sampledOf, samplerOf}
+use Rattle.usart.specs.Sampler.{idleOf, castOf, nextBitOf, shiftedOf, tallyOf, decidedOf, votedOf, sampledOf, samplerOf}
 use Rattle.usart.specs.Sender.{steppedOf}
 use Rattle.usart.specs.Settings.{sizeOf}
 use Rattle.usart.specs.Unit.{isBusy, clockOf as serialClock}
@@ -78,7 +78,7 @@ m9 = (
 )
 
 m10 : M10
-unfolding overrun heard listening lineFrom fourFrames ranOf placeOf leftOf steppedOf listenedOf enabledOf isBusy serialClock formattedOf txcCleared writeA sizeOf frameBit lineLevel byModeOf sumOfBits idleOf castOf nextBitOf shiftedOf decidedOf votedOf sampledOf samplerOf parityError
+unfolding overrun heard listening lineFrom fourFrames ranOf placeOf leftOf steppedOf listenedOf enabledOf isBusy serialClock formattedOf txcCleared writeA sizeOf frameBit lineLevel byModeOf sumOfBits idleOf castOf nextBitOf shiftedOf tallyOf decidedOf votedOf sampledOf samplerOf parityError
 m10 = refl
 
 pub marked : Each cases

@@ -9,7 +9,7 @@ use Rattle.choice.specs.Bit.{bitAt}
 use Rattle.choice.specs.Pick.{pick}
 use Rattle.choice.proofs.Picks.{clash}
 use Rattle.usart.specs.Event.{Event, isRefused, isUdr0, levelsOf, OnlyData as OnlyDataAt}
-use Rattle.usart.specs.Read.{readOf as serialReadOf}
+use Rattle.usart.specs.Read.{splitVotes as serialSplitVotes, readOf as serialReadOf}
 use Rattle.usart.specs.Receiving.{Seen, Free as FreeAt, seenBy as seenAt, readsOf as readsIn, entriesOf as entriesAt}
 use Rattle.usart.specs.Unit.{clockOf}
 use Rattle.usart.specs.Write.{writeOf as serialWriteOf}
@@ -23,14 +23,14 @@ use Rattle.device.specs.Outcome.{answerOf, valueOf}
 use Rattle.device.specs.Register.{serialWritten, writeIn}
 use Rattle.device.proofs.SerialLaws.{isData}
 use Rattle.device.specs.Serial.{isSerial, clocksOf, writesAt, readsAt}
-use Rattle.device.specs.Unit.{rxdIn}
+use Rattle.device.specs.Unit.{rxdIn, splitVotes}
 use Rattle.device.specs.declared.address.Place.{Place}
 use Rattle.device.specs.declared.address.Place.the-variants.{Serial, Spi, Nowhere}
 use Rattle.device.specs.declared.unit.Device.{Device}
 use Rattle.device.proofs.SerialLaws.{data-address, levels-serial, writes-are, reads-are, vectors-are}
 use Rattle.record.specs.Codec.{decodeOf}
 use Rattle.record.specs.declared.codec.Decoded.the-variants.{Accepted}
-use Rattle.warpmagpie.specs.Calls.{readValue}
+use Rattle.warpmagpie.specs.Calls.{queryValueOn, readValue, splitVotesValue}
 use Rattle.history.specs.Call.{Call, reset, write, read, vector, pass, effect, recordAfter, Throughout, usartOf, OnlyDataCall, rxdLevels}
 use Rattle.history.specs.Receiving.{Free, seenBy, takenBy, readsOf, entriesOf}
 use Rattle.history.proofs.StepLaws.{write-on, read-on}
@@ -88,11 +88,11 @@ only-view s (c ∷ cs) a =
     (subst (λ (u : Usart). OnlyDataAt u (eventsOf s c)) (sym (usart-is s (x .device) (x .valid))) (only-by s (x .device) (x .valid) c (x .only)))
     (subst (λ (u : Usart). OnlyDataAt u rest) (x .next) (only-view (recordAfter s c) cs (a .1)))
 
--- what UDR0, UCSR0B and UCSR0A show of a frame
-abbrev seenOf : ℕ → ℕ → ℕ → Seen
-seenOf v b a = record { value = v; rxb8 = bitAt b 1; fe = bitAt a 4; dor = bitAt a 3; upe = bitAt a 2 }
+-- what UDR0, UCSR0B, UCSR0A and the call for split votes show of a frame
+abbrev seenOf : ℕ → ℕ → ℕ → ℕ → Seen
+seenOf v b a c = record { value = v; rxb8 = bitAt b 1; fe = bitAt a 4; dor = bitAt a 3; upe = bitAt a 2; splits = c }
 
--- what the registers read
+-- what the registers read, and the split votes
 module _ (s : List ℕ) (d : Device) (h : decodeOf s ≡ Accepted d) where
   pub ucsr0a-is : readValue s 0xC0 ≡ serialReadOf (d .usart) Ucsr0a .value
   unfolding placeOf
@@ -106,10 +106,14 @@ module _ (s : List ℕ) (d : Device) (h : decodeOf s ≡ Accepted d) where
   unfolding placeOf
   udr0-is = ap valueOf (read-on s d h 0xC6)
 
+  splits-are : splitVotesValue s ≡ serialSplitVotes (d .usart)
+  unfolding queryValueOn
+  splits-are = ap (queryValueOn splitVotes) h
+
   seen-is : seenBy s ≡ seenAt (d .usart)
   seen-is =
-      ap (λ (v : ℕ). seenOf v (readValue s 0xC1) (readValue s 0xC0)) udr0-is
-      ∙ ap₂ (seenOf (serialReadOf (d .usart) Udr0 .value)) ucsr0b-is ucsr0a-is
+      ap₂ (λ (v c : ℕ). seenOf v (readValue s 0xC1) (readValue s 0xC0) c) udr0-is splits-are
+      ∙ ap₂ (λ (b a : ℕ). seenOf (serialReadOf (d .usart) Udr0 .value) b a (serialSplitVotes (d .usart))) ucsr0b-is ucsr0a-is
 
 -- what a UDR0 read sees if RXC is set
 abbrev seenIf : Usart → List Seen

@@ -41,7 +41,7 @@ use Rattle.device.specs.Address.{placeOf}
 use Rattle.device.specs.Outcome.{answerOf, readAnswerOf, valueOf}
 use Rattle.device.specs.Register.{serialWritten, spiWritten, writeIn, readIn, vectorOf}
 use Rattle.device.specs.Run.{ranOf, outputsOf, areLevels, shown}
-use Rattle.device.specs.Unit.{resetDevice}
+use Rattle.device.specs.Unit.{resetDevice, requestsOf, splitVotes}
 use Rattle.device.specs.declared.address.Place.{Place}
 use Rattle.device.specs.declared.address.Place.the-variants.{Serial, Spi, Nowhere}
 use Rattle.answer.specs.declared.Refusal.the-variants.{Unknown, Record, Length, Level, Different}
@@ -59,7 +59,7 @@ use Rattle.record.specs.declared.codec.Decoded.the-variants.{Accepted, Refused 
 use Rattle.record.specs.Refusing.{NoRecord}
 use Rattle.record.proofs.Five.{five}
 use Rattle.record.proofs.Round.{record-decode}
-use Rattle.warpmagpie.specs.Calls.{resetOn, writeOn, readOn, readAnswer, readValue, vectorOn, runOn, outputsOn, runAnswer, recordAfterRun, outputsAfterRun, requestsAnswerOn, requestsAnswer, requestsValueOn, requestsValue}
+use Rattle.warpmagpie.specs.Calls.{resetOn, writeOn, readOn, readAnswer, readValue, vectorOn, runOn, outputsOn, runAnswer, recordAfterRun, outputsAfterRun, queryAnswerOn, queryValueOn, requestsAnswer, requestsValue, splitVotesAnswer, splitVotesValue}
 use Rattle.holding.specs.Hold.{holdIn, holdOn, holdAnswer, holdOutput}
 use Rattle.tracing.specs.Replay.{replayAnswer}
 use Rattle.recording.specs.Calls.{filledNumber, filledLength, traceWriteAnswer, traceWriteLength, traceShrinkAnswer, traceShrinkLength}
@@ -157,7 +157,7 @@ unfolding holdOn holdIn
 hold-table (Accepted d) l n = hold-by _ _ (ltb l 32) (isHighLevel l) (low-level l ∙ not-not (eqb (l / 32) 0))
 hold-table NoDevice l n = refl
 
--- reset and report
+-- reset and queries
 reset-by : (t : Bool) → answerOf (pick t (Done resetDevice) (Refused Record)) ≡ pick (not t) 5 0
 reset-by true = refl
 reset-by false = refl
@@ -166,10 +166,10 @@ reset-table : (s : List ℕ) → answerOf (resetOn s) ≡ pick (isWrongLength s)
 unfolding resetOn
 reset-table s = reset-by (eqb (length s) recordLength)
 
-report-table : (x : Decoded) → requestsAnswerOn x ≡ pick (isNoDevice x) 5 0
-unfolding requestsAnswerOn
-report-table (Accepted d) = refl
-report-table NoDevice = refl
+query-table : (x : Decoded) → queryAnswerOn x ≡ pick (isNoDevice x) 5 0
+unfolding queryAnswerOn
+query-table (Accepted d) = refl
+query-table NoDevice = refl
 
 -- replay
 played-by : (t b : Bool) (r : Replayed) (d : Device) (line : ℕ) → outcomeNumber (r .outcome) ≡ pick b 10 0
@@ -291,7 +291,8 @@ numbered s = record {
   vector = vector-table (decodeOf s);
   run = run-table (decodeOf s);
   hold = hold-table (decodeOf s);
-  report = report-table (decodeOf s);
+  report = query-table (decodeOf s);
+  splitVotes = query-table (decodeOf s);
   malformed = malformed-table;
   replay = replay-table s;
   noList = no-list-table;
@@ -327,7 +328,7 @@ shown-refused os new (Refused r) f = refl
 pub refused-outputs : (s ls os : List ℕ) → (runAnswer s ls os ≡ 0 → ⊥) → outputsAfterRun s ls os ≡ os
 refused-outputs s ls os f = shown-refused os (outputsOn (decodeOf s) ls) (runOn (decodeOf s) ls os) f
 
--- a refused read, hold or report answers 0
+-- a refused read, hold or query answers 0
 no-value : (g : Reading) → (readAnswerOf g ≡ 0 → ⊥) → valueOf g ≡ 0
 no-value (Value v d) f = absurd (f refl)
 no-value (NoValue r) f = refl
@@ -338,13 +339,16 @@ refused-value s a f = no-value (readOn (decodeOf s) a) f
 pub refused-output : (s : List ℕ) (l n : ℕ) → (holdAnswer s l n ≡ 0 → ⊥) → holdOutput s l n ≡ 0
 refused-output s l n f = no-value (holdOn (decodeOf s) l n) f
 
-no-report : (x : Decoded) → (requestsAnswerOn x ≡ 0 → ⊥) → requestsValueOn x ≡ 0
-unfolding requestsAnswerOn requestsValueOn
-no-report (Accepted d) f = absurd (f refl)
-no-report NoDevice f = refl
+unasked : (asked : Device → ℕ) (x : Decoded) → (queryAnswerOn x ≡ 0 → ⊥) → queryValueOn asked x ≡ 0
+unfolding queryAnswerOn queryValueOn
+unasked asked (Accepted d) f = absurd (f refl)
+unasked asked NoDevice f = refl
 
 pub refused-report : (s : List ℕ) → (requestsAnswer s ≡ 0 → ⊥) → requestsValue s ≡ 0
-refused-report s f = no-report (decodeOf s) f
+refused-report s f = unasked requestsOf (decodeOf s) f
+
+pub refused-splits : (s : List ℕ) → (splitVotesAnswer s ≡ 0 → ⊥) → splitVotesValue s ≡ 0
+refused-splits s f = unasked splitVotes (decodeOf s) f
 
 -- a trace that is not written or not shrunk leaves its buffer untouched and answers the length 0
 not-filled : (sound : Bool) (is : List Item) (buffer : List ℕ) → (filledNumber (filledOf sound is (length buffer)) ≡ 0 → ⊥)

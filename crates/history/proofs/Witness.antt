@@ -1,7 +1,7 @@
 -- The theorems over histories are not empty: at each speed a closed history that meets every premise of demand 3, with
--- two frames at unequal crystals, and with refused calls, SPI traffic, reads, a write of UDR0, vectors and reports
+-- two frames at unequal crystals, and with refused calls, SPI traffic, reads, a write of UDR0, vectors and queries
 -- among the runs. The same history is one of the sender's, and one that agrees with its serial side alone, which has no
--- report.
+-- query.
 use Prim.Native.Nat.{ℕ, zero, suc, _+_, _-_, _*_}
 use mathlib.Core.Bool.{Bool, true, false}
 use mathlib.Core.List.{List, [], _∷_}
@@ -16,7 +16,7 @@ use Rattle.usart.specs.Baud.{leftOf}
 use Rattle.usart.specs.Line.{Sent, lineLevel}
 use Rattle.usart.specs.Receiver.{listenedOf}
 use Rattle.usart.specs.Receiving.{heldBy, LineOn, Delivered}
-use Rattle.usart.specs.Sampler.{idleOf, castOf, nextBitOf, shiftedOf, decidedOf, votedOf, sampledOf, samplerOf}
+use Rattle.usart.specs.Sampler.{idleOf, castOf, nextBitOf, shiftedOf, tallyOf, decidedOf, votedOf, sampledOf, samplerOf}
 use Rattle.usart.specs.Sender.{steppedOf}
 use Rattle.usart.specs.Sending.{Sends}
 use Rattle.usart.specs.Settings.{sizeOf, parityOf}
@@ -49,7 +49,7 @@ use Rattle.record.specs.Accepts.{isWithin, counterFits, bufferFits, shifterFits
 use Rattle.record.specs.declared.codec.Decoded.the-variants.{Accepted}
 use Rattle.warpmagpie.specs.Calls.{writeOn, readOn, vectorOn, runOn}
 use Rattle.holding.specs.Hold.{holdIn, holdOn}
-use Rattle.history.specs.Call.{run, hold, Call, write, read, vector, pass, report, finalRecord, Bytes, usartOf, OnlyData, rxdLevels}
+use Rattle.history.specs.Call.{run, hold, Call, write, read, vector, pass, report, splitVotes, finalRecord, Bytes, usartOf, OnlyData, rxdLevels}
 use Rattle.history.specs.Receiving.{Hears, readsOf, entriesOf}
 use Rattle.history.specs.Sending.{MaySend, takenOf, txdLevels}
 use Rattle.history.specs.Serial.{serialParts, Alike, Agree}
@@ -96,21 +96,21 @@ runFor u2x j n = pass (run (line u2x j n) (blank n))
 
 -- a hold while the line is idle; in mid-frame: SPI set up as master with SPIE and a byte sent, every kind of refusal
 -- but 5, a byte for the sender, a read of the empty buffer; the first frame is read while the second is on the line.
--- Reports are polled all along
+-- Reports are polled all along, and the split votes asked for before that read
 unfoldable pub calls : Bool → List Call
 calls u2x =
     let n : ℕ = 20 * scale u2x in
     let m : ℕ = 60 * scale u2x in
     pass (hold 17 3) ∷ runFor u2x 3 (n - 3) ∷ write 0x24 0x2C ∷ report ∷ write 0x4C 0xD0 ∷ write 0x4E 0xA5 ∷ report ∷ write 0x4E 0x5A ∷ write 0x4C 0x51 ∷ read 0x4D ∷ write 0xC4 7 ∷ write 0xC2 0xC0
     ∷ write 0xC2 0x16 ∷ write 0xC3 1 ∷ read 0x99 ∷ vector 0 ∷ vector 1 ∷ vector 7 ∷ pass (run (1 ∷ []) []) ∷ pass (run (33 ∷ []) (0 ∷ [])) ∷ pass (hold 33 0) ∷ pass (run [] []) ∷ report ∷ write 0xC6 85 ∷ read 0xC0
-    ∷ read 0xC6 ∷ runFor u2x n m ∷ report ∷ read 0xC6 ∷ read 0x4E ∷ runFor u2x (n + m) m ∷ report ∷ []
+    ∷ read 0xC6 ∷ runFor u2x n m ∷ report ∷ splitVotes ∷ read 0xC6 ∷ read 0x4E ∷ runFor u2x (n + m) m ∷ report ∷ []
 
 bytes : (u2x : Bool) → Bytes (calls u2x)
 unfolding calls
 bytes u2x =
-    (tt, (tt, (lit< tt, (tt, (lit< tt, (lit< tt, (tt, (lit< tt, (lit< tt, (tt, (lit< tt, (lit< tt, (lit< tt, (lit< tt, (tt, (tt, (tt, (tt, (tt, (tt, (tt, (tt, (tt, (lit< tt, (tt, (tt, (tt, (tt, (tt, (tt, (tt, (tt, tt))))))))))))))))))))))))))))))))
+    (tt, (tt, (lit< tt, (tt, (lit< tt, (lit< tt, (tt, (lit< tt, (lit< tt, (tt, (lit< tt, (lit< tt, (lit< tt, (lit< tt, (tt, (tt, (tt, (tt, (tt, (tt, (tt, (tt, (tt, (lit< tt, (tt, (tt, (tt, (tt, (tt, (tt, (tt, (tt, (tt, tt)))))))))))))))))))))))))))))))))
 
--- the serial side of the history alone, with no SPI traffic and no report, its clocks split into other runs
+-- the serial side of the history alone, with no SPI traffic and no query, its clocks split into other runs
 unfoldable pub quiet : Bool → List Call
 quiet u2x =
     let n : ℕ = 20 * scale u2x in
@@ -132,7 +132,7 @@ record Found (u2x : Bool) (s : List ℕ) : Type 0 where
   same : serialParts s (calls u2x) ≡ serialParts s (quiet u2x)
 
 found : (u2x : Bool) → Found u2x (recordOf (start u2x))
-unfolding throughout only roomy start frames level line blank calls quiet shown free room bool-eqb lineLevel frameBit sumOfBits leftOf steppedOf idleOf castOf nextBitOf shiftedOf decidedOf votedOf sampledOf samplerOf listenedOf isBusy clockOf sizeOf parityOf formattedOf writeC isReservedC sizedC timedOf transmittedOf serialVectorOf parityError placeOf ranOf areLevels vectorOf vectorsAt byModeOf masterOf divisorNumber isModeFault writeSpcr loadedOf spiVectorOf isUnderWay firstOut nextEdge edgedOf differs isRequested isSampling isPutting edgeOf outBit shiftedIn decodeOf recordOf isWithin counterFits bufferFits shifterFits isUndecided firstFits secondFits receptionFits samplerFits placesFit enabledFits usartFits outFits masterFits slaveFits spiFits accepts isRecord flagOf bufferFrom shifterFrom samplerFrom placesFrom writeOn readOn vectorOn runOn holdIn holdOn
+unfolding throughout only roomy start frames level line blank calls quiet shown free room bool-eqb lineLevel frameBit sumOfBits leftOf steppedOf idleOf castOf nextBitOf shiftedOf tallyOf decidedOf votedOf sampledOf samplerOf listenedOf isBusy clockOf sizeOf parityOf formattedOf writeC isReservedC sizedC timedOf transmittedOf serialVectorOf parityError placeOf ranOf areLevels vectorOf vectorsAt byModeOf masterOf divisorNumber isModeFault writeSpcr loadedOf spiVectorOf isUnderWay firstOut nextEdge edgedOf differs isRequested isSampling isPutting edgeOf outBit shiftedIn decodeOf recordOf isWithin counterFits bufferFits shifterFits isUndecided firstFits secondFits receptionFits samplerFits placesFit enabledFits usartFits outFits masterFits slaveFits spiFits accepts isRecord flagOf bufferFrom shifterFrom samplerFrom placesFrom writeOn readOn vectorOn runOn holdIn holdOn
 found true = record {
   valid = refl;
   only = refl;

@@ -14,7 +14,7 @@ use Rattle.device.specs.declared.unit.Device.{Device}
 use Rattle.record.specs.Codec.{decodeOf}
 use Rattle.record.specs.declared.codec.Decoded.{Decoded}
 use Rattle.record.specs.declared.codec.Decoded.the-variants.{Accepted, Refused}
-use Rattle.warpmagpie.specs.Calls.{resetAnswer, recordAfterReset, writeAnswer, recordAfterWrite, readAnswer, recordAfterRead, vectorAnswer, recordAfterVector, runAnswer, recordAfterRun, outputsOn, outputsAfterRun, requestsAnswer}
+use Rattle.warpmagpie.specs.Calls.{resetAnswer, recordAfterReset, writeAnswer, recordAfterWrite, readAnswer, recordAfterRead, vectorAnswer, recordAfterVector, runAnswer, recordAfterRun, outputsOn, outputsAfterRun, requestsAnswer, splitVotesAnswer}
 use Rattle.holding.specs.Hold.{holdAnswer, recordAfterHold}
 
 -- what passes clocks, or none, and touches no register: a run, with its slices of levels and outputs; a hold of a level
@@ -32,9 +32,12 @@ pub data Call : Type 0 where
   vector : ℕ → Call
   pass : Passing → Call
 
--- the report of requests is a query
+-- the report of requests is a query, and so is the call for split votes
 abbrev pub report : Call
 report = pass (query requestsAnswer)
+
+abbrev pub splitVotes : Call
+splitVotes = pass (query splitVotesAnswer)
 
 -- what a call does: the number that it answers, the record that it leaves, the level bytes of the clocks that it
 -- passed, and the output bytes after them: of a run those that it answers; of a hold, which answers the last alone,

@@ -7,7 +7,7 @@ use Rattle.choice.specs.Bit.{bitAt}
 use Rattle.choice.specs.Pick.{digit}
 use Rattle.frame.specs.Format.{lastBit}
 use Rattle.frame.specs.Parity.{parityIn}
-use Rattle.frame.specs.Vote.{majorityOf}
+use Rattle.frame.specs.Vote.{voteOf}
 use Rattle.frame.specs.declared.format.Format.{Format}
 use Rattle.frame.specs.declared.format.Parity.the-variants.{Even}
 use Rattle.frame.specs.declared.format.Size.the-variants.{Nine}
@@ -55,7 +55,7 @@ M4 =
 
 -- M5: votes low, high, low give low
 abbrev pub M5 : Type 0
-M5 = majorityOf false true false ≡ false
+M5 = voteOf false true false .level ≡ false
 
 -- M6: UCSR0C 0x00 with UCSZ2 set: 2. Nine data bits are the one size that has UCSZ2 set
 abbrev pub M6 : Type 0

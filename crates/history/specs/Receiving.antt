@@ -12,7 +12,7 @@ use Rattle.device.specs.Serial.{clocksOf}
 use Rattle.device.specs.declared.unit.Device.{Device}
 use Rattle.record.specs.Codec.{decodeOf}
 use Rattle.record.specs.declared.codec.Decoded.the-variants.{Accepted}
-use Rattle.warpmagpie.specs.Calls.{readValue}
+use Rattle.warpmagpie.specs.Calls.{readValue, splitVotesValue}
 use Rattle.history.specs.Call.{Call, reset, write, read, vector, pass, effect, along, gathered, Throughout, Bytes, usartOf, OnlyData, rxdLevels}
 
 -- a place is free whenever a frame completes: at each clock that completes one, fewer than two are held
@@ -29,7 +29,7 @@ pub record Hears (P Q : ℕ) (fs : List Sent) (d : Device) (s : List ℕ) (cs : 
   pub line : LineOn P Q fs (d .usart .format) (d .usart .baud .ubrr) (rxdLevels s cs)
   pub free : Free s cs
 
--- what a read of UDR0 answers, and what UCSR0B and UCSR0A read just before it
+-- what a read of UDR0 answers, and what UCSR0B and UCSR0A read, and the call for split votes answers, just before it
 abbrev pub seenBy : List ℕ → Seen
 seenBy s = record {
   value = readValue s 0xC6;
@@ -37,6 +37,7 @@ seenBy s = record {
   fe = bitAt (readValue s 0xC0) 4;
   dor = bitAt (readValue s 0xC0) 3;
   upe = bitAt (readValue s 0xC0) 2;
+  splits = splitVotesValue s;
 }
 
 -- a UDR0 read with RXC set takes a frame

@@ -1,6 +1,6 @@
 -- SPI traffic never changes a serial answer (document 01, 'The line of demand 3', its end): what the serial side of a
--- history is, and what it is answered. A query is no part of it: it may stand anywhere, and bits 0 to 2 of a report are
--- those of the serial side where it stands.
+-- history is, and what it is answered. A query is no part of it: it may stand anywhere, and bits 0 to 2 of a report, and
+-- all of the split votes, are those of the serial side where it stands.
 use Prim.Native.Nat.{ℕ, _%_}
 use mathlib.Core.List.{List, [], _∷_, map}
 use mathlib.Core.Path.{_≡_}
@@ -11,7 +11,7 @@ use Rattle.device.specs.Address.{placeOf}
 use Rattle.device.specs.Unit.{txdBits}
 use Rattle.device.specs.declared.unit.Device.{Device}
 use Rattle.device.specs.Serial.{isSerial, clocksOf, writesAt, readsAt, vectorsAt}
-use Rattle.warpmagpie.specs.Calls.{resetAnswer, writeAnswer, readAnswer, readValue, vectorAnswer, requestsValue}
+use Rattle.warpmagpie.specs.Calls.{resetAnswer, writeAnswer, readAnswer, readValue, vectorAnswer, requestsValue, splitVotesValue}
 use Rattle.record.specs.Codec.{decodeOf}
 use Rattle.record.specs.declared.codec.Decoded.the-variants.{Accepted}
 use Rattle.history.specs.Call.{Call, reset, write, read, vector, pass, effect, finalRecord, gathered, Bytes, usartOf}
@@ -65,8 +65,10 @@ pub record Alike (d e : Device) (s t : List ℕ) (cs ds : List Call) : Type 0 wh
   pub bytesToo : Bytes ds
   pub same : serialParts s cs ≡ serialParts t ds
 
--- they agree on all serial answers, TxD and, in a report after them, request bits 0 to 2, and end as one serial device
+-- they agree on all serial answers, TxD and, in queries after them, request bits 0 to 2 and the split votes, and end as
+-- one serial device
 pub record Agree (s t : List ℕ) (cs ds : List Call) : Type 0 where
   pub answers : serialAnswers s cs ≡ serialAnswers t ds
   pub requests : requestBits (finalRecord s cs) ≡ requestBits (finalRecord t ds)
+  pub splits : splitVotesValue (finalRecord s cs) ≡ splitVotesValue (finalRecord t ds)
   pub final : usartOf (finalRecord s cs) ≡ usartOf (finalRecord t ds)

@@ -32,7 +32,7 @@ use Rattle.record.specs.Codec.{decodeOf}
 use Rattle.record.specs.Refusing.{NoRecord}
 use Rattle.record.specs.declared.codec.Decoded.{Decoded}
 use Rattle.record.specs.declared.codec.Decoded.the-variants.{Accepted, Refused}
-use Rattle.warpmagpie.specs.Calls.{resetAnswer, writeAnswer, readAnswer, vectorAnswer, runAnswer, requestsAnswer}
+use Rattle.warpmagpie.specs.Calls.{resetAnswer, writeAnswer, readAnswer, vectorAnswer, runAnswer, requestsAnswer, splitVotesAnswer}
 use Rattle.holding.specs.Hold.{holdAnswer}
 use Rattle.tracing.specs.Replay.{replayAnswer}
 use Rattle.recording.specs.Calls.{traceWriteAnswer, traceShrinkAnswer}
@@ -145,6 +145,7 @@ pub record Numbers (s : List ℕ) : Type 0 where
   pub run : (ls os : List ℕ) → runAnswer s ls os ≡ pick (isNoRecord s) 5 (pick (areUneven ls os) 6 (pick (hasHighLevel ls) 7 0))
   pub hold : (l n : ℕ) → holdAnswer s l n ≡ pick (isNoRecord s) 5 (pick (isHighLevel l) 7 0)
   pub report : requestsAnswer s ≡ pick (isNoRecord s) 5 0
+  pub splitVotes : splitVotesAnswer s ≡ pick (isNoRecord s) 5 0
   pub malformed : (text : List ℕ)
       → (isMalformed text ≡ true → (is : List Item) → IsText text is → ⊥) × (((is : List Item) → IsText text is → ⊥) → isMalformed text ≡ true)
   pub replay : (text : List ℕ) → replayAnswer s text ≡ pick (isWrongLength s) 5 (pick (isMalformed text) 9 (pick (isDifferent text) 10 0))

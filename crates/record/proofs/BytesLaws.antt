@@ -16,7 +16,7 @@ use Rattle.usart.specs.Valid.{Valid as ValidUsart}
 use Rattle.usart.specs.declared.sender.Transmission.{Transmission}
 use Rattle.usart.specs.declared.sampler.Reception.{Reception}
 use Rattle.device.specs.Valid.{Valid}
-use Rattle.record.specs.Layout.{most, recordLength, layoutByte, layoutNumber, ucsr0aByte, ucsr0bByte, ucsr0cByte, byteAt, wordAt, setAt, low, high}
+use Rattle.record.specs.Layout.{most, recordLength, layoutByte, layoutNumber, ucsr0aByte, ucsr0bByte, ucsr0cByte, byteAt, wordAt, tripleAt, setAt, low, high}
 use Rattle.record.specs.Layout.{sendingByte, receivingByte, lastByte, fullByte, dataByte, heldByte, lostByte, oldestByte, nextByte}
 use Rattle.record.specs.Codes.{sizeCode, flagCode, flagOf}
 use Rattle.record.specs.Parts.{bufferData, transmissionIn, rememberedIn, receptionIn}
@@ -26,7 +26,7 @@ use Rattle.record.specs.Accepts.{isWithin, settingsFit, counterFits, buf
 use Rattle.record.proofs.ListLaws.{and-both}
 use Rattle.record.proofs.RegisterLaws.{a-again, b-again, c-again}
 use Rattle.record.proofs.TestLaws.{counter-valid, buffer-valid, buffer-shown, shifter-valid, shifter-shown, sampler-valid, sampler-shown}
-use Rattle.record.proofs.QueueLaws.{places-valid, PlacesShown, places-shown, enabled-valid}
+use Rattle.record.proofs.QueueLaws.{FrameBytes, places-valid, PlacesShown, places-shown, enabled-valid}
 use Rattle.record.proofs.SpiTestLaws.{spi-valid}
 
 -- no byte is above its limit
@@ -105,7 +105,7 @@ module _ (s : List ℕ) (h : accepts s ≡ true) where
     pub buffer : bufferFits (formatAt s) (setAt s fullByte) (wordAt s dataByte) ≡ true
     pub shifter : shifterFits (formatAt s) (setAt s sendingByte) (transmissionAt s) ≡ true
     pub sampler : samplerFits (formatAt s) (setAt s receivingByte) (setAt s lastByte) (receptionAt s) ≡ true
-    pub places : placesFit (x heldByte) (wordAt s oldestByte) (wordAt s nextByte) ≡ true
+    pub places : placesFit (x heldByte) (tripleAt s oldestByte) (tripleAt s nextByte) ≡ true
     pub enabled : enabledFits (controlAt s .rxen) (setAt s receivingByte) (setAt s lastByte) (x heldByte) (setAt s lostByte) ≡ true
 
   pub serial : SerialTests
@@ -115,7 +115,7 @@ module _ (s : List ℕ) (h : accepts s ≡ true) where
       let b = both (bufferFits (formatAt s) (setAt s fullByte) (wordAt s dataByte)) _ (a .1) in
       let c = both (shifterFits (formatAt s) (setAt s sendingByte) (transmissionAt s)) _ (b .1) in
       let d = both (samplerFits (formatAt s) (setAt s receivingByte) (setAt s lastByte) (receptionAt s)) _ (c .1) in
-      let e = both (placesFit (x heldByte) (wordAt s oldestByte) (wordAt s nextByte)) _ (d .1) in
+      let e = both (placesFit (x heldByte) (tripleAt s oldestByte) (tripleAt s nextByte)) _ (d .1) in
       record { counter = a .0; buffer = b .0; shifter = c .0; sampler = d .0; places = e .0; enabled = e .1 }
 
   pub limit : (i : ℕ) → i < recordLength → x i ≤ getD most i 0
@@ -163,6 +163,12 @@ module _ (s : List ℕ) (h : accepts s ≡ true) where
   in-shift r sending true e k = ap (λ (b : Bool). pick b true r) (sym e) ∙ k
   in-shift r sending false e k = ap (λ (b : Bool). pick b true r) (sym e)
 
+  oldest-bytes : FrameBytes (x 28) (x 29) (x 30)
+  oldest-bytes = record { low-lt = below 28 (omega arith) (omega arith); marks-le = limit 29 (omega arith); splits-le = limit 30 (omega arith) }
+
+  second-bytes : FrameBytes (x 31) (x 32) (x 33)
+  second-bytes = record { low-lt = below 31 (omega arith) (omega arith); marks-le = limit 32 (omega arith); splits-le = limit 33 (omega arith) }
+
   valid-usart : ValidUsart (usartAt s)
   valid-usart =
       let m0 = limit 0 (omega arith) in let m1 = limit 1 (omega arith) in
@@ -175,9 +181,7 @@ module _ (s : List ℕ) (h : accepts s ≡ true) where
         };
         receiver = record {
           sampler = sampler-valid (formatAt s) (setAt s receivingByte) (setAt s lastByte) (receptionAt s) (serial .sampler);
-          places =
-              places-valid (x 28) (x 29) (x 31) (x 32) (below 28 (omega arith) (omega arith)) (limit 29 (omega arith)) (below 31 (omega arith) (omega arith))
-              (limit 32 (omega arith)) (x heldByte) (limit 25 (omega arith));
+          places = places-valid (x 28) (x 29) (x 30) (x 31) (x 32) (x 33) oldest-bytes second-bytes (x heldByte) (limit 25 (omega arith));
         };
         disabled =
             enabled-valid (controlAt s .rxen) (setAt s receivingByte) (setAt s lastByte) (receptionAt s) (x heldByte) (frameAt s oldestByte) (frameAt s nextByte)
@@ -198,10 +202,9 @@ module _ (s : List ℕ) (h : accepts s ≡ true) where
 
   -- and they are its image
 
-  places : PlacesShown (x 28) (x 29) (x 31) (x 32) (below 28 (omega arith) (omega arith)) (limit 29 (omega arith)) (below 31 (omega arith) (omega arith)) (limit 32 (omega arith)) (x heldByte) (placesAt s)
+  places : PlacesShown (x 28) (x 29) (x 30) (x 31) (x 32) (x 33) oldest-bytes second-bytes (x heldByte) (placesAt s)
   places =
-      places-shown (x 28) (x 29) (x 31) (x 32) (below 28 (omega arith) (omega arith)) (limit 29 (omega arith)) (below 31 (omega arith) (omega arith))
-      (limit 32 (omega arith)) (x heldByte) (limit 25 (omega arith)) (serial .places)
+      places-shown (x 28) (x 29) (x 30) (x 31) (x 32) (x 33) oldest-bytes second-bytes (x heldByte) (limit 25 (omega arith)) (serial .places)
 
   bit-of : {b : Bool} (i : ℕ) → x i ≤ 1 → b ≡ setAt s i → bit b ≡ x i
   bit-of i l e = ap bit e ∙ bit-again (x i) l
@@ -242,8 +245,9 @@ module _ (s : List ℕ) (h : accepts s ≡ true) where
       ▹ bit-of 21 (limit 21 (omega arith)) (ap (λ (r : Reception). r .second) reception)
       ▹ low-of 22 (le-255 22 (omega arith) (omega arith)) (ap (λ (r : Reception). r .word) reception)
       ▹ high-of 22 (le-255 22 (omega arith) (omega arith)) (le-255 23 (omega arith) (omega arith)) (ap (λ (r : Reception). r .word) reception)
-      ▹ none (limit 24 (omega arith)) ▹ places .count ▹ none (limit 26 (omega arith)) ▹ bit-of 27 (limit 27 (omega arith)) refl
-      ▹ places .oldest-low ▹ places .oldest-marks ▹ none (limit 30 (omega arith)) ▹ places .second-low ▹ places .second-marks ▹ none (limit 33 (omega arith))
+      ▹ ap (λ (r : Reception). r .splits) reception ▹ places .count ▹ none (limit 26 (omega arith)) ▹ bit-of 27 (limit 27 (omega arith)) refl
+      ▹ places .oldest .low-is ▹ places .oldest .marks-are ▹ places .oldest .splits-are
+      ▹ places .second .low-is ▹ places .second .marks-are ▹ places .second .splits-are
       ▹ none (limit 34 (omega arith)) ▹ none (limit 35 (omega arith)) ▹ none (limit 36 (omega arith)) ▹ none (limit 37 (omega arith))
       ▹ none (limit 38 (omega arith)) ▹ none (limit 39 (omega arith)) ▹ none (limit 40 (omega arith)) ▹ none (limit 41 (omega arith))
       ▹ none (limit 42 (omega arith)) ▹ none (limit 43 (omega arith)) ▹ none (limit 44 (omega arith)) ▹ none (limit 45 (omega arith))

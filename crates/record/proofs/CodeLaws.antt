@@ -3,9 +3,10 @@ use Prim.Native.Nat.{ℕ, zero, suc, _+_, _-_, _*_, _%_, _^_, _<_, _≤_}
 use mathlib.Core.Bool.{Bool, true, false, not}
 use mathlib.Core.Path.{_≡_, refl, sym, ap, _∙_}
 use native.Mathlib.Nat.{pow-suc, pow-le-pow-right}
+use native.Mathlib.Decide.{decLt}
 use native.Mathlib.Omega.{arith}
-use lib.Dec.{eqb, ltb}
-use borrow.Author.Tests.{lt-ltb, le-ltb}
+use lib.Dec.{eqb, ltb, leb}
+use borrow.Author.Tests.{lt-ltb, le-ltb, lt-leb, le-leb}
 use Rattle.choice.specs.Pick.{pick}
 use lib.Pow.{pow-pos}
 use Rattle.frame.specs.Format.{dataBits, wordBits}
@@ -102,6 +103,18 @@ shifted-one n h =
     let most : 2 ^ n ≤ 2048 = pow-le-pow-right {n = 2} (omega arith) {i = n} {j = 11} h in
     let least = pow-pos n in
     (omega arith, omega (arith, least))
+
+-- at most as many split votes as bits decided, with b the bit that is sampled, s its samples and c the count: before its
+-- last vote, and from there on
+
+pub splits-before : (v s b c : ℕ) → s < v + 2 → leb c b ≡ leb c (pick (ltb s (v + 2)) b (b + 1))
+splits-before v s b c h = rw (lt-ltb s (v + 2) h)
+
+pub splits-after : (v s b c : ℕ) {n : ℕ} → v + 2 ≤ s → n ≡ c - 1 → leb n b ≡ leb c (pick (ltb s (v + 2)) b (b + 1))
+splits-after v s b c {n} h e = rw (le-ltb s (v + 2) h) (elim (decLt b n) [
+  | yes p ↦ lt-leb n b p ∙ sym (lt-leb c (b + 1) (omega arith))
+  | no p ↦ le-leb n b (omega arith) ∙ sym (le-leb c (b + 1) (omega arith))
+])
 
 -- bits that have not come in, with b the bit that is sampled and s its samples: before its last vote, and from there on
 

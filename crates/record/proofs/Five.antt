@@ -19,7 +19,7 @@ use Rattle.usart.specs.declared.sampler.Sampler.the-variants.{Receiving}
 use Rattle.device.specs.declared.unit.Device.{Device}
 use Rattle.record.specs.Layout.{recordLength, layoutNumber, layoutByte, ucsr0aByte, ucsr0bByte, ucsr0cByte, fullByte, dataByte, sendingByte}
 use Rattle.record.specs.Layout.{sentWordByte, sentBitByte, sentTicksByte, receivingByte, lastByte, bitByte, samplesByte, firstByte, secondByte}
-use Rattle.record.specs.Layout.{wordByte, heldByte, lostByte, oldestByte, nextByte, most, byteAt, wordAt, setAt}
+use Rattle.record.specs.Layout.{wordByte, splitsByte, heldByte, lostByte, oldestByte, nextByte, most, byteAt, wordAt, tripleAt, setAt}
 use Rattle.record.specs.Parts.{bufferFrom, shifterFrom, samplerFrom, rememberedIn}
 use Rattle.record.specs.Lift.{baudAt, formatAt, controlAt, transmissionAt, receptionAt, samplerAt, frameAt, receiverAt, spiAt, deviceAt}
 use Rattle.record.specs.Accepts.{isWithin, settingsFit, counterFits, bufferFits, isNoTransmission, shifterFits, isNoReception, samplerFits, placesFit, enabledFits, usartFits, accepts, isRecord}
@@ -73,7 +73,8 @@ module _ (s : List ℕ) (h : accepts s ≡ true) where
     last = λ e. no-last e (serial s h .sampler);
     bit = λ e. let t = idle e in (t .0, t .1 .0);
     votes = λ e. let t = idle e in (zero-flag _ (limit s h firstByte (omega arith)) (t .1 .1 .0), zero-flag _ (limit s h secondByte (omega arith)) (t .1 .1 .1 .0));
-    word = λ e. idle e .1 .1 .1 .1;
+    word = λ e. idle e .1 .1 .1 .1 .0;
+    splits = λ e. idle e .1 .1 .1 .1 .1;
     oldest = λ e. no-oldest (byteAt s heldByte) e (serial s h .places);
     second = λ e. no-second (byteAt s heldByte) e (serial s h .places);
   }
@@ -93,14 +94,15 @@ module _ (s : List ℕ) (h : accepts s ≡ true) where
       no-sampler true l e k = clash refl e
       no-sampler false l e k = k
 
-      idle : byteAt s receivingByte ≡ 0 → (byteAt s bitByte ≡ 0) × ((byteAt s samplesByte ≡ 0) × ((setAt s firstByte ≡ false) × ((setAt s secondByte ≡ false) × (wordAt s wordByte ≡ 0))))
+      idle : byteAt s receivingByte ≡ 0 → (byteAt s bitByte ≡ 0) × ((byteAt s samplesByte ≡ 0) × ((setAt s firstByte ≡ false) × ((setAt s secondByte ≡ false) × ((wordAt s wordByte ≡ 0) × (byteAt s splitsByte ≡ 0)))))
       idle e =
           let r = receptionAt s in
-          let a = and-both (eqb (r .bit) 0 && eqb (r .sample .0) 0 && not (r .first) && not (r .second)) (eqb (r .word) 0)
+          let c = and-both (eqb (r .bit) 0 && eqb (r .sample .0) 0 && not (r .first) && not (r .second) && eqb (r .word) 0) (eqb (r .splits) 0)
           (no-sampler (setAt s receivingByte) (setAt s lastByte) (not-set receivingByte e) (serial s h .sampler)) in
+          let a = and-both (eqb (r .bit) 0 && eqb (r .sample .0) 0 && not (r .first) && not (r .second)) (eqb (r .word) 0) (c .0) in
           let b = and-both (eqb (r .bit) 0 && eqb (r .sample .0) 0 && not (r .first)) (not (r .second)) (a .0) in
           let w = three (eqb (r .bit) 0) (eqb (r .sample .0) 0) (not (r .first)) (b .0) in
-          (eqb-true _ 0 (w .0), (eqb-true _ 0 (w .1 .0), (not-true _ (w .1 .1), (not-true _ (b .1), eqb-true _ 0 (a .1)))))
+          (eqb-true _ 0 (w .0), (eqb-true _ 0 (w .1 .0), (not-true _ (w .1 .1), (not-true _ (b .1), (eqb-true _ 0 (a .1), eqb-true _ 0 (c .1))))))
 
       last-low : (t l : Bool) → t ≡ true → samplerFits (formatAt s) t l (receptionAt s) ≡ true → l ≡ false
       last-low true true e k = clash k refl
@@ -111,13 +113,13 @@ module _ (s : List ℕ) (h : accepts s ≡ true) where
       no-last e k =
           zero-flag (byteAt s lastByte) (limit s h lastByte (omega arith)) (last-low (setAt s receivingByte) (setAt s lastByte) (eq-eqb (byteAt s receivingByte) 1 e) k)
 
-      no-oldest : (n : ℕ) → n ≡ 0 → placesFit n (wordAt s oldestByte) (wordAt s nextByte) ≡ true → wordAt s oldestByte ≡ 0
-      no-oldest zero e k = eqb-true (wordAt s oldestByte) 0 (and-both (eqb (wordAt s nextByte) 0) (eqb (wordAt s oldestByte) 0) k .1)
+      no-oldest : (n : ℕ) → n ≡ 0 → placesFit n (tripleAt s oldestByte) (tripleAt s nextByte) ≡ true → tripleAt s oldestByte ≡ 0
+      no-oldest zero e k = eqb-true (tripleAt s oldestByte) 0 (and-both (eqb (tripleAt s nextByte) 0) (eqb (tripleAt s oldestByte) 0) k .1)
       no-oldest (suc n) e k = absurd (omega (arith, e))
 
-      no-second : (n : ℕ) → n < 2 → placesFit n (wordAt s oldestByte) (wordAt s nextByte) ≡ true → wordAt s nextByte ≡ 0
-      no-second zero e k = eqb-true (wordAt s nextByte) 0 (and-both (eqb (wordAt s nextByte) 0) (eqb (wordAt s oldestByte) 0) k .0)
-      no-second (suc zero) e k = eqb-true (wordAt s nextByte) 0 k
+      no-second : (n : ℕ) → n < 2 → placesFit n (tripleAt s oldestByte) (tripleAt s nextByte) ≡ true → tripleAt s nextByte ≡ 0
+      no-second zero e k = eqb-true (tripleAt s nextByte) 0 (and-both (eqb (tripleAt s nextByte) 0) (eqb (tripleAt s oldestByte) 0) k .0)
+      no-second (suc zero) e k = eqb-true (tripleAt s nextByte) 0 k
       no-second (suc (suc n)) e k = absurd (omega (arith, e))
 
   in-range : FieldsInRange s
@@ -178,10 +180,12 @@ module _ (s : List ℕ) (v : FieldsInRange s) (unused : (i : ℕ) → i < record
       let b = v .others .bit e in
       let w = v .others .votes e in
       and-pair _ _
+      (and-pair _ _
       (and-pair _ _ (and-three _ _ _ (eq-eqb _ 0 (b .0)) (eq-eqb _ 0 (b .1)) (ap not (not-one (w .0)))) (ap not (not-one (w .1))))
-      (eq-eqb _ 0 (v .others .word e))
+      (eq-eqb _ 0 (v .others .word e)))
+      (eq-eqb _ 0 (v .others .splits e))
 
-  places-test : (n : ℕ) → (n ≡ 0 → wordAt s oldestByte ≡ 0) → (n < 2 → wordAt s nextByte ≡ 0) → n ≤ 2 → placesFit n (wordAt s oldestByte) (wordAt s nextByte) ≡ true
+  places-test : (n : ℕ) → (n ≡ 0 → tripleAt s oldestByte ≡ 0) → (n < 2 → tripleAt s nextByte ≡ 0) → n ≤ 2 → placesFit n (tripleAt s oldestByte) (tripleAt s nextByte) ≡ true
   unfolding placesFit
   places-test zero a b l = and-pair _ _ (eq-eqb _ 0 (b (omega arith))) (eq-eqb _ 0 (a refl))
   places-test (suc zero) a b l = eq-eqb _ 0 (b (omega arith))

@@ -3,12 +3,13 @@ use Prim.Native.Nat.{ℕ, _+_, _<_, _≤_}
 use mathlib.Core.Bool.{Bool, true, false, not}
 use mathlib.Core.List.{List, [], _∷_}
 use mathlib.Core.Path.{_≡_, refl, sym, ap, ap₂, _∙_}
+use native.Mathlib.Decide.{decLt}
 use native.Mathlib.Omega.{arith}
 use lib.Dec.{eqb, lit≤}
 use borrow.Author.Tests.{eq-eqb, le-leb}
 use Rattle.choice.specs.Pick.{pick}
 use Rattle.choice.proofs.Digits.{digit-le}
-use Rattle.frame.specs.Format.{samples, wordBits, stopBits}
+use Rattle.frame.specs.Format.{samples, firstVote, wordBits, stopBits}
 use Rattle.frame.specs.declared.format.Size.{Size}
 use Rattle.frame.specs.declared.format.Size.the-variants.{Five, Six, Seven, Eight, Nine}
 use Rattle.frame.specs.declared.format.Parity.{Parity}
@@ -35,6 +36,7 @@ use Rattle.spi.specs.declared.flag.Flag.the-variants.{Clear, Set, Armed}
 use Rattle.spi.proofs.DivisorLaws.{half-of}
 use Rattle.device.specs.Valid.{Valid}
 use Rattle.device.specs.declared.unit.Device.{Device}
+use Rattle.usart.proofs.TallyLaws.{voted-before, voted-after}
 use Rattle.record.specs.Layout.{most, byteAt, wordAt, setAt, low, high}
 use Rattle.record.specs.Layout.{sendingByte, receivingByte, lastByte, fullByte, dataByte, heldByte, lostByte}
 use Rattle.record.specs.Codes.{flagCode}
@@ -45,7 +47,7 @@ use Rattle.record.specs.Accepts.{isWithin, settingsFit, counterFits, buf
 use Rattle.record.proofs.ListLaws.{and-pair}
 use Rattle.record.proofs.RegisterLaws.{none-else, code-again, marks-lt}
 use Rattle.record.proofs.CodeLaws.{flag-bit}
-use Rattle.record.proofs.LiftLaws.{data-lt, sent-lt, received-lt, baud-law, format-law, control-law, data-law, transmission-law, reception-law, spi-law}
+use Rattle.record.proofs.LiftLaws.{data-lt, sent-lt, received-lt, valid-oldest, valid-second, baud-law, format-law, control-law, data-law, transmission-law, reception-law, spi-law}
 use Rattle.record.proofs.TestLaws.{counter-fits, buffer-fits, shifter-fits, sampler-fits}
 use Rattle.record.proofs.QueueLaws.{places-fit, enabled-fits}
 use Rattle.record.proofs.SpiTestLaws.{spi-fits}
@@ -100,6 +102,16 @@ received-bit f (Receiving r) v = let w = word-bits-range f in let b : r .bit ≤
 received-sample : (f : Format) (s : Sampler) → ValidSampler f s → receptionIn s .sample .0 ≤ 15
 received-sample f (Idle last) v = omega arith
 received-sample f (Receiving r) v = let l = samples-le f in let b : r .sample .0 < samples f = v .sample in omega arith
+
+-- the stop bit is not decided yet
+received-splits : (f : Format) (s : Sampler) → ValidSampler f s → receptionIn s .splits ≤ 11
+received-splits f (Idle last) v = omega arith
+received-splits f (Receiving r) v = elim (decLt (r .sample .0) (firstVote f + 2)) [
+  | yes p ↦ omega (arith, v .splits, voted-before f r p, v .bit, word-bits-range f)
+  | no p ↦
+      let inner : r .bit ≡ wordBits f + 1 → ⊥ = λ e. omega (arith, v .stop e) in
+      omega (arith, v .splits, voted-after f r (omega arith), v .bit, inner, word-bits-range f)
+]
 
 left-le : (c : SpiControl) (n : ℕ) → n ≤ half c → n ≤ 64
 left-le c n h = let l = half-of (divisorNumber c) .high in omega arith
@@ -170,8 +182,9 @@ module _ (d : Device) (v : Valid d) where
       ▹ received-bit f (d .usart .receiver .sampler) s ▹ received-sample f (d .usart .receiver .sampler) s
       ▹ bit-le (r .reception .first) ▹ bit-le (r .reception .second)
       ▹ low-le (r .reception .word) ▹ high-10 (r .reception .word) (received-lt f (d .usart .receiver .sampler) s)
-      ▹ none ▹ held-le q ▹ none ▹ bit-le (d .usart .receiver .queue .lost)
-      ▹ low-le (r .oldest .«data») ▹ marks-lt (r .oldest) ▹ none ▹ low-le (r .second .«data») ▹ marks-lt (r .second) ▹ none
+      ▹ received-splits f (d .usart .receiver .sampler) s ▹ held-le q ▹ none ▹ bit-le (d .usart .receiver .queue .lost)
+      ▹ low-le (r .oldest .«data») ▹ marks-lt (r .oldest) ▹ valid-oldest q (v .usart .receiver .places) .splits
+      ▹ low-le (r .second .«data») ▹ marks-lt (r .second) ▹ valid-second q (v .usart .receiver .places) .splits
       ▹ none ▹ none ▹ none ▹ none ▹ none ▹ none
       ▹ none ▹ none ▹ none ▹ none ▹ none ▹ none ▹ none ▹ none
       ▹ le-255 _ (v .spi .spcr) ▹ bit-le (d .spi .control .spi2x) ▹ le-255 _ (v .spi .ddrb)

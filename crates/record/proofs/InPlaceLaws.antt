@@ -136,10 +136,11 @@ record ReceivedAs (a b : Sampler) : Type 0 where
   first : receptionIn a .first ≡ receptionIn b .first
   second : receptionIn a .second ≡ receptionIn b .second
   word : receptionIn a .word ≡ receptionIn b .word
+  splits : receptionIn a .splits ≡ receptionIn b .splits
 
 received-as : (s : Sampler) → ReceivedAs s (countedSampler s 1)
-received-as (Idle last) = record { receiving = refl; last = refl; bit = refl; first = refl; second = refl; word = refl }
-received-as (Receiving r) = record { receiving = refl; last = refl; bit = refl; first = refl; second = refl; word = refl }
+received-as (Idle last) = record { receiving = refl; last = refl; bit = refl; first = refl; second = refl; word = refl; splits = refl }
+received-as (Receiving r) = record { receiving = refl; last = refl; bit = refl; first = refl; second = refl; word = refl; splits = refl }
 
 -- a disabled receiver is idle, so it has nothing to count
 counted-receiver : (rxen : Bool) (r : Receiver) → (rxen ≡ false → r ≡ stopped)
@@ -176,7 +177,7 @@ module _ (d : Device) (v : Valid d) where
       ▹ ap (λ (x : Bool). bit (not x)) (a .sending) ▹ ap low (a .word) ▹ ap high (a .word) ▹ a .bit ▹ sent-ticks shifter
       ▹ ap bit (b .receiving) ▹ ap bit (b .last) ▹ b .bit ▹ received-samples sampler
       ▹ ap bit (b .first) ▹ ap bit (b .second) ▹ ap low (b .word) ▹ ap high (b .word)
-      ▹ refl ▹ refl ▹ refl ▹ refl ▹ refl ▹ refl ▹ refl ▹ refl
+      ▹ b .splits ▹ refl ▹ refl ▹ refl ▹ refl ▹ refl ▹ refl ▹ refl
       ▹ refl ▹ refl ▹ refl ▹ refl ▹ refl ▹ refl ▹ refl ▹ refl
       ▹ refl ▹ refl ▹ refl ▹ refl ▹ refl ▹ refl ▹ refl ▹ refl
       ▹ refl ▹ refl ▹ refl ▹ refl ▹ refl ▹ refl ▹ refl ▹ refl

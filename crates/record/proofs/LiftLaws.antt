@@ -6,8 +6,8 @@ use native.Mathlib.Omega.{arith}
 use Rattle.frame.specs.Format.{dataBits, wordBits}
 use Rattle.frame.specs.declared.format.Format.{Format}
 use Rattle.frame.proofs.WordLaws.{frame-lt}
-use Rattle.usart.specs.Queue.{oldestOf}
-use Rattle.usart.specs.Valid.{ValidBuffer, ValidShifter, ValidSampler, ValidPlaces}
+use Rattle.usart.specs.Queue.{noFrame, oldestOf}
+use Rattle.usart.specs.Valid.{ValidBuffer, ValidShifter, ValidSampler, ValidFrame, ValidPlaces}
 use Rattle.usart.specs.declared.sender.Buffer.{Buffer}
 use Rattle.usart.specs.declared.sender.Buffer.the-variants.{Vacant, Full}
 use Rattle.usart.specs.declared.sender.ShiftRegister.{ShiftRegister}
@@ -39,15 +39,18 @@ pub received-lt : (f : Format) (s : Sampler) → ValidSampler f s → receptionI
 received-lt f (Idle last) v = omega arith
 received-lt f (Receiving r) v = let l = word-limit f in let w : r .word < 2 ^ wordBits f = v .word in omega arith
 
-oldest-lt : (p : Places) → ValidPlaces p → oldestOf p .«data» < 512
-oldest-lt Empty v = omega arith
-oldest-lt (One a) v = v
-oldest-lt (Two a b) v = v .0
+valid-none : ValidFrame noFrame
+valid-none = record { «data» = omega arith; splits = omega arith }
 
-second-lt : (p : Places) → ValidPlaces p → secondIn p .«data» < 512
-second-lt Empty v = omega arith
-second-lt (One a) v = omega arith
-second-lt (Two a b) v = v .1
+pub valid-oldest : (p : Places) → ValidPlaces p → ValidFrame (oldestOf p)
+valid-oldest Empty v = valid-none
+valid-oldest (One a) v = v
+valid-oldest (Two a b) v = v .0
+
+pub valid-second : (p : Places) → ValidPlaces p → ValidFrame (secondIn p)
+valid-second Empty v = valid-none
+valid-second (One a) v = valid-none
+valid-second (Two a b) v = v .1
 
 module _ (d : Device) (v : Valid d) where
   pub baud-law : baudAt (imageOf d) ≡ d .usart .baud
@@ -102,11 +105,11 @@ module _ (d : Device) (v : Valid d) where
 
   oldest-law : frameAt (imageOf d) oldestByte ≡ oldestOf (d .usart .receiver .queue .places)
   oldest-law =
-      frame-again (oldestOf (d .usart .receiver .queue .places)) (oldest-lt (d .usart .receiver .queue .places) (v .usart .receiver .places))
+      frame-again (oldestOf (d .usart .receiver .queue .places)) (valid-oldest (d .usart .receiver .queue .places) (v .usart .receiver .places) .«data»)
 
   second-law : frameAt (imageOf d) nextByte ≡ secondIn (d .usart .receiver .queue .places)
   second-law =
-      frame-again (secondIn (d .usart .receiver .queue .places)) (second-lt (d .usart .receiver .queue .places) (v .usart .receiver .places))
+      frame-again (secondIn (d .usart .receiver .queue .places)) (valid-second (d .usart .receiver .queue .places) (v .usart .receiver .places) .«data»)
 
   queue-law : queueAt (imageOf d) ≡ d .usart .receiver .queue
   queue-law =

@@ -7,9 +7,9 @@ use lib.Dec.{eqb}
 use borrow.Author.Tests.{eqb-true, not-true}
 use Rattle.choice.proofs.Picks.{clash}
 use Rattle.usart.specs.Sampler.{isReceiving}
-use Rattle.usart.specs.Queue.{oldestOf}
+use Rattle.usart.specs.Queue.{noFrame, oldestOf}
 use Rattle.usart.specs.Receiver.{stopped}
-use Rattle.usart.specs.Valid.{ValidPlaces}
+use Rattle.usart.specs.Valid.{ValidFrame, ValidPlaces}
 use Rattle.usart.specs.declared.sampler.Reception.{Reception}
 use Rattle.usart.specs.declared.queue.Frame.{Frame}
 use Rattle.usart.specs.declared.queue.Places.{Places}
@@ -22,9 +22,9 @@ use Rattle.record.specs.Accepts.{placesFit, enabledFits}
 use Rattle.record.proofs.ListLaws.{and-both}
 use Rattle.record.proofs.RegisterLaws.{marks-again}
 
--- the two bytes of a held frame, as a word
+-- the three bytes of a held frame, as a number
 abbrev bytesOf : Frame → ℕ
-bytesOf x = low (x .«data») + 256 * marksOf x
+bytesOf x = low (x .«data») + 256 * marksOf x + 65536 * x .splits
 
 pub places-fit : (p : Places) → placesFit (heldCount p) (bytesOf (oldestOf p)) (bytesOf (secondIn p)) ≡ true
 unfolding placesFit
@@ -32,42 +32,50 @@ places-fit Empty = refl
 places-fit (One a) = refl
 places-fit (Two a b) = refl
 
+-- the bytes of a held frame are within their limits
+pub record FrameBytes (low marks splits : ℕ) : Type 0 where
+  pub low-lt : low < 256
+  pub marks-le : marks ≤ 15
+  pub splits-le : splits ≤ 12
+
+frame-valid : (k l c : ℕ) → FrameBytes k l c → ValidFrame (frameFrom k l c)
+frame-valid k l c h = record { «data» = omega (arith, h .low-lt); splits = h .splits-le }
+
+-- they are shown again
+pub record FrameShown (low-byte marks splits : ℕ) (x : Frame) : Type 0 where
+  pub low-is : low (x .«data») ≡ low-byte
+  pub marks-are : marksOf x ≡ marks
+  pub splits-are : x .splits ≡ splits
+
+frame-shown : (k l c : ℕ) → FrameBytes k l c → FrameShown k l c (frameFrom k l c)
+frame-shown k l c h = let a = marks-again k l c (h .low-lt) (h .marks-le) in record { low-is = a .0; marks-are = a .1; splits-are = refl }
+
+no-frame-shown : (k l c : ℕ) → k + 256 * l + 65536 * c ≡ 0 → FrameShown k l c noFrame
+no-frame-shown k l c h = record { low-is = omega arith; marks-are = omega arith; splits-are = omega arith }
+
 -- n frames of these bytes
-module _ (k l m n : ℕ) (hk : k < 256) (hl : l ≤ 15) (hm : m < 256) (hn : n ≤ 15) where
-  pub places-valid : (held : ℕ) → held ≤ 2 → ValidPlaces (placesFrom held (frameFrom k l) (frameFrom m n))
+module _ (k l c m n e : ℕ) (ha : FrameBytes k l c) (hb : FrameBytes m n e) where
+  pub places-valid : (held : ℕ) → held ≤ 2 → ValidPlaces (placesFrom held (frameFrom k l c) (frameFrom m n e))
   unfolding placesFrom
   places-valid zero h = tt
-  places-valid (suc zero) h = omega arith
-  places-valid (suc (suc zero)) h = (omega arith, omega arith)
+  places-valid (suc zero) h = frame-valid k l c ha
+  places-valid (suc (suc zero)) h = (frame-valid k l c ha, frame-valid m n e hb)
   places-valid (suc (suc (suc held))) h = absurd (omega arith)
 
-  -- they are shown again
   pub record PlacesShown (held : ℕ) (p : Places) : Type 0 where
     pub count : heldCount p ≡ held
-    pub oldest-low : low (oldestOf p .«data») ≡ k
-    pub oldest-marks : marksOf (oldestOf p) ≡ l
-    pub second-low : low (secondIn p .«data») ≡ m
-    pub second-marks : marksOf (secondIn p) ≡ n
+    pub oldest : FrameShown k l c (oldestOf p)
+    pub second : FrameShown m n e (secondIn p)
 
-  none : (x y : ℕ) → x + 256 * y ≡ 0 → (0 ≡ x) × (0 ≡ y)
-  none x y h = (omega arith, omega arith)
-
-  pub places-shown : (held : ℕ) → held ≤ 2 → placesFit held (k + 256 * l) (m + 256 * n) ≡ true → PlacesShown held (placesFrom held (frameFrom k l) (frameFrom m n))
+  pub places-shown : (held : ℕ) → held ≤ 2 → placesFit held (k + 256 * l + 65536 * c) (m + 256 * n + 65536 * e) ≡ true
+      → PlacesShown held (placesFrom held (frameFrom k l c) (frameFrom m n e))
   unfolding placesFrom placesFit
-  places-shown zero h e =
-      let p = and-both (eqb (m + 256 * n) 0) (eqb (k + 256 * l) 0) e in
-      let a = none k l (eqb-true (k + 256 * l) 0 (p .1)) in
-      let b = none m n (eqb-true (m + 256 * n) 0 (p .0)) in
-      record { count = refl; oldest-low = a .0; oldest-marks = a .1; second-low = b .0; second-marks = b .1 }
-  places-shown (suc zero) h e =
-      let a = marks-again k l hk hl in
-      let b = none m n (eqb-true (m + 256 * n) 0 e) in
-      record { count = refl; oldest-low = a .0; oldest-marks = a .1; second-low = b .0; second-marks = b .1 }
-  places-shown (suc (suc zero)) h e =
-      let a = marks-again k l hk hl in
-      let b = marks-again m n hm hn in
-      record { count = refl; oldest-low = a .0; oldest-marks = a .1; second-low = b .0; second-marks = b .1 }
-  places-shown (suc (suc (suc held))) h e = absurd (omega arith)
+  places-shown zero h q =
+      let p = and-both (eqb (m + 256 * n + 65536 * e) 0) (eqb (k + 256 * l + 65536 * c) 0) q in
+      record { count = refl; oldest = no-frame-shown k l c (eqb-true _ 0 (p .1)); second = no-frame-shown m n e (eqb-true _ 0 (p .0)) }
+  places-shown (suc zero) h q = record { count = refl; oldest = frame-shown k l c ha; second = no-frame-shown m n e (eqb-true _ 0 q) }
+  places-shown (suc (suc zero)) h q = record { count = refl; oldest = frame-shown k l c ha; second = frame-shown m n e hb }
+  places-shown (suc (suc (suc held))) h q = absurd (omega arith)
 
 -- a disabled receiver is stopped
 

@@ -189,7 +189,7 @@ module _ (f : Format) (k : Control) (txc : Bool) where
 pub marks-lt : (x : Frame) → marksOf x ≤ 15
 marks-lt x = let u = digit-le (x .upe) in let d = digit-le (x .dor) in let f = digit-le (x .fe) in omega arith
 
-pub frame-again : (x : Frame) → x .«data» < 512 → frameFrom (low (x .«data»)) (marksOf x) ≡ x
+pub frame-again : (x : Frame) → x .«data» < 512 → frameFrom (low (x .«data»)) (marksOf x) (x .splits) ≡ x
 frame-again x h =
     let m : MarkBits (marksOf x) (x .«data» / 256 % 2) (digit (x .upe)) (digit (x .dor)) (digit (x .fe)) =
     mark-bits _ _ _ _ (omega arith) (digit-le (x .upe)) (digit-le (x .dor)) (digit-le (x .fe)) in
@@ -227,7 +227,7 @@ module _ (x y z : ℕ) (known : isKnown (sizeOf (sizeCode y z)) ≡ true) where
       let n : code % 4 ≡ z / 2 % 4 = let q = code-is in omega arith in
       rw (upm-again (z / 16 % 4) (omega arith) k, digit-odd (z / 8), n) (c-sum z h e)
 
-pub marks-again : (l m : ℕ) → l < 256 → m ≤ 15 → (low (frameFrom l m .«data») ≡ l) × (marksOf (frameFrom l m) ≡ m)
-marks-again l m h k =
+pub marks-again : (l m c : ℕ) → l < 256 → m ≤ 15 → (low (frameFrom l m c .«data») ≡ l) × (marksOf (frameFrom l m c) ≡ m)
+marks-again l m c h k =
     let n : (l + 256 * (m % 2)) / 256 % 2 ≡ m % 2 = omega arith in
     (omega arith, rw (n, digit-odd (m / 2), digit-odd (m / 4), digit-odd (m / 8)) (mark-sum m k))

@@ -1,15 +1,23 @@
--- What is looked at of the bytes for a report. Assumes nothing.
-use Prim.Native.Nat.{ℕ}
+-- What is looked at of the bytes for a query. Assumes nothing.
+use Prim.Native.Nat.{ℕ, _+_}
 use mathlib.Core.Bool.{Bool, true, false, not}
-use mathlib.Core.Path.{_≡_, refl}
+use mathlib.Core.List.{List}
+use mathlib.Core.Path.{_≡_, refl, sym, ap, _∙_}
 use lib.Dec.{eqb}
-use Rattle.choice.proofs.Picks.{pick-ind, split}
+use lib.ListN.{length}
+use Rattle.choice.proofs.Picks.{pick-ind, split, both}
 use Rattle.usart.specs.Sender.{isVacant}
 use Rattle.usart.specs.Queue.{isEmpty}
 use Rattle.usart.specs.declared.queue.Frame.{Frame}
 use Rattle.usart.specs.declared.queue.Places.{Places}
 use Rattle.usart.specs.declared.queue.Places.the-variants.{One, Two}
+use Rattle.device.specs.Unit.{splitVotes}
+use Rattle.record.specs.Layout.{recordLength, oldestByte, byteAt}
 use Rattle.record.specs.Parts.{bufferFrom, placesFrom}
+use Rattle.record.specs.Lift.{deviceAt}
+use Rattle.record.specs.Accepts.{accepts, isRecord}
+use Rattle.record.proofs.ListLaws.{record-length}
+use Rattle.record.proofs.BytesLaws.{image-again}
 
 pub none-held : (n : ℕ) (a b : Frame) → isEmpty (placesFrom n a b) ≡ eqb n 0
 unfolding placesFrom
@@ -20,3 +28,10 @@ pub not-full : (full : Bool) (d : ℕ) → isVacant (bufferFrom full d) ≡ not 
 unfolding bufferFrom
 not-full true d = refl
 not-full false d = refl
+
+-- the byte of the oldest frame's split votes is 0 where none is held
+pub splits-shown : (s : List ℕ) {t : Bool} → t ≡ isRecord s → t ≡ true → byteAt s (oldestByte + 2) ≡ splitVotes (deviceAt s)
+unfolding isRecord
+splits-shown s e h =
+    let a : accepts s ≡ true = both (eqb (length s) recordLength) (accepts s) (sym e ∙ h) .1 in
+    ap (λ (b : List ℕ). byteAt b (oldestByte + 2)) (sym (image-again s a (record-length s e h)))

@@ -17,7 +17,7 @@ use Rattle.record.specs.declared.codec.Decoded.the-variants.{Accepted, R
 use Rattle.record.specs.declared.in_place.Stepped.{Stepped}
 use Rattle.record.specs.declared.in_place.Stepped.the-variants.{Refused, Counted, Due}
 use Rattle.record.specs.declared.report.Reported.{Reported}
-use Rattle.record.specs.declared.report.Reported.the-variants.{Refused as NoReport, Bits}
+use Rattle.record.specs.declared.report.Reported.the-variants.{Refused as NoReport, Value}
 
 -- the record is no device's, or it is that of the device that its bytes say
 accepted-as : (s : List ℕ) → isRecord s ≡ true → decodeOf s ≡ Accepted (deviceAt s)
@@ -65,22 +65,22 @@ module _ (s : List ℕ) (level : ℕ) {r : Stepped} (e : r ≡ steppedOf s level
   pub refused-from : r ≡ Refused → (decodeOf s ≡ NoDevice) × (steppedOver s level ≡ s)
   refused-from h = let q = stepped-says s level Refused (sym h ∙ e) in (refused-as s (q .0), q .1)
 
--- a report
-abbrev Reports : List ℕ → Bool → Reported → Type 0
-Reports s t NoReport = t ≡ false
-Reports s t (Bits b) = (t ≡ true) × (b ≡ requestsOf (deviceAt s))
+-- a query
+module _ (asked : Device → ℕ) (s : List ℕ) where
+  abbrev Reports : Bool → Reported → Type 0
+  Reports t NoReport = t ≡ false
+  Reports t (Value x) = (t ≡ true) × (x ≡ asked (deviceAt s))
 
-reports : (s : List ℕ) (t : Bool) → Reports s t (pick t (Bits (requestsOf (deviceAt s))) NoReport)
-reports s true = (refl, refl)
-reports s false = refl
+  reports : (t : Bool) → Reports t (pick t (Value (asked (deviceAt s))) NoReport)
+  reports true = (refl, refl)
+  reports false = refl
 
-reported : (s : List ℕ) (r : Reported) → r ≡ reportOf s → Reports s (isRecord s) r
-unfolding reportOf
-reported s r e = subst (Reports s (isRecord s)) (sym e) (reports s (isRecord s))
+  reported : (r : Reported) → r ≡ reportOf asked s → Reports (isRecord s) r
+  unfolding reportOf
+  reported r e = subst (Reports (isRecord s)) (sym e) (reports (isRecord s))
 
-module _ (s : List ℕ) {r : Reported} (e : r ≡ reportOf s) where
-  pub bits-from : {b : ℕ} → r ≡ Bits b → (decodeOf s ≡ Accepted (deviceAt s)) × (b ≡ requestsOf (deviceAt s))
-  bits-from {b} h = let q = reported s (Bits b) (sym h ∙ e) in (accepted-as s (q .0), q .1)
+  pub value-from : {r : Reported} {x : ℕ} → r ≡ reportOf asked s → r ≡ Value x → (decodeOf s ≡ Accepted (deviceAt s)) × (x ≡ asked (deviceAt s))
+  value-from {r} {x} e h = let q = reported (Value x) (sym h ∙ e) in (accepted-as s (q .0), q .1)
 
-  pub unreported-from : r ≡ NoReport → decodeOf s ≡ NoDevice
-  unreported-from h = refused-as s (reported s NoReport (sym h ∙ e))
+  pub unreported-from : {r : Reported} → r ≡ reportOf asked s → r ≡ NoReport → decodeOf s ≡ NoDevice
+  unreported-from e h = refused-as s (reported NoReport (sym h ∙ e))

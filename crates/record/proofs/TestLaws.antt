@@ -24,7 +24,7 @@ use Rattle.usart.specs.declared.sampler.Reception.{Reception}
 use Rattle.usart.specs.declared.sampler.Sampler.{Sampler}
 use Rattle.usart.specs.declared.sampler.Sampler.the-variants.{Idle, Receiving}
 use Rattle.record.specs.Parts.{bufferData, bufferFrom, transmissionIn, shifterFrom, rememberedIn, receptionIn, samplerFrom}
-use Rattle.record.specs.Accepts.{counterFits, bufferFits, isNoTransmission, shifterFits, receptionWithin, isUndecided, firstFits, secondFits, restFits, receptionFits, isNoReception, samplerFits}
+use Rattle.record.specs.Accepts.{counterFits, bufferFits, isNoTransmission, shifterFits, receptionWithin, isUndecided, firstFits, secondFits, splitsFit, restFits, receptionFits, isNoReception, samplerFits}
 use Rattle.record.proofs.ListLaws.{and-both, and-pair}
 
 -- tests joined by &&
@@ -128,7 +128,9 @@ module _ (f : Format) (r : Reception) where
       either (receptionWithin f r) _ _
       (λ _. either (isUndecided f r) _ _
       (λ _. either (firstFits f r) _ _
-      (λ _. either (secondFits f r) _ _ (λ _. eq-eqb _ _ (v .rest)) (λ e. clash (second-fits v) e))
+      (λ _. either (secondFits f r) _ _
+      (λ _. either (splitsFit f r) _ _ (λ _. eq-eqb _ _ (v .rest)) (λ e. clash (le-leb _ _ (v .splits)) e))
+      (λ e. clash (second-fits v) e))
       (λ e. clash (first-fits v) e))
       (λ e. clash (undecided-fits v) e))
       (λ e. clash (and-three _ _ _ (lt-ltb _ _ (v .word)) (le-leb _ _ (v .bit)) (lt-ltb _ _ (v .sample))) e)
@@ -160,7 +162,8 @@ module _ (f : Format) (r : Reception) where
       let a = both (receptionWithin f r) _ h in
       let b = both (isUndecided f r) _ (a .1) in
       let c = both (firstFits f r) _ (b .1) in
-      let d = both (secondFits f r) (restFits f r) (c .1) in
+      let d = both (secondFits f r) _ (c .1) in
+      let k = both (splitsFit f r) (restFits f r) (d .1) in
       let w = three (ltb (r .word) (2 ^ wordBits f)) (leb (r .bit) (wordBits f + 1)) (ltb (r .sample .0) (samples f)) (a .0) in
       record {
         word = ltb-true _ _ (w .0);
@@ -168,9 +171,10 @@ module _ (f : Format) (r : Reception) where
         sample = ltb-true _ _ (w .1 .1);
         start = begun (b .0);
         stop = pending (b .0);
-        rest = eqb-true _ _ (d .1);
+        rest = eqb-true _ _ (k .1);
         first = first-valid (c .0);
         second = second-valid (d .0);
+        splits = leb-true _ _ (k .0);
       }
 
 pub sampler-fits : (f : Format) (s : Sampler) → ValidSampler f s → samplerFits f (isReceiving s) (rememberedIn s) (receptionIn s) ≡ true
@@ -186,7 +190,8 @@ sampler-valid f false last r h = tt
 
 no-reception : (r : Reception) → isNoReception r ≡ true → receptionIn (Idle false) ≡ r
 no-reception r h =
-    let a = and-both (eqb (r .bit) 0 && eqb (r .sample .0) 0 && not (r .first) && not (r .second)) (eqb (r .word) 0) h in
+    let c = and-both (eqb (r .bit) 0 && eqb (r .sample .0) 0 && not (r .first) && not (r .second) && eqb (r .word) 0) (eqb (r .splits) 0) h in
+    let a = and-both (eqb (r .bit) 0 && eqb (r .sample .0) 0 && not (r .first) && not (r .second)) (eqb (r .word) 0) (c .0) in
     let b = and-both (eqb (r .bit) 0 && eqb (r .sample .0) 0 && not (r .first)) (not (r .second)) (a .0) in
     let w = three (eqb (r .bit) 0) (eqb (r .sample .0) 0) (not (r .first)) (b .0) in
     rw (
@@ -195,6 +200,7 @@ no-reception r h =
       not-true (r .first) (w .1 .1),
       not-true (r .second) (b .1),
       eqb-true (r .word) 0 (a .1),
+      eqb-true (r .splits) 0 (c .1),
     )
 
 pub sampler-shown : (f : Format) (receiving last : Bool) (r : Reception) → samplerFits f receiving last r ≡ true → let s = samplerFrom receiving last r in

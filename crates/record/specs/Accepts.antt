@@ -19,7 +19,7 @@ use Rattle.spi.specs.Unit.{sckOf}
 use Rattle.spi.specs.Valid.{isFirstOut, firstBit}
 use Rattle.spi.specs.declared.unit.Spi.{Spi}
 use Rattle.record.specs.Layout.{recordLength, layoutNumber, layoutByte, ucsr0aByte, ucsr0bByte, ucsr0cByte, fullByte, dataByte, sendingByte}
-use Rattle.record.specs.Layout.{receivingByte, lastByte, heldByte, lostByte, oldestByte, nextByte, most, byteAt, wordAt, setAt}
+use Rattle.record.specs.Layout.{receivingByte, lastByte, heldByte, lostByte, oldestByte, nextByte, most, byteAt, wordAt, tripleAt, setAt}
 use Rattle.record.specs.Codes.{sizeCode}
 use Rattle.record.specs.Lift.{baudAt, formatAt, controlAt, transmissionAt, receptionAt, spiAt}
 
@@ -74,15 +74,21 @@ firstFits f r = pick (r .first) (leb (firstVote f) (r .sample .0) && ltb (r .sam
 unfoldable pub secondFits : Format → Reception → Bool
 secondFits f r = pick (r .second) (eqb (r .sample .0) (firstVote f + 1)) true
 
+-- no more votes are split than bits are decided
+abbrev pub splitsFit : Format → Reception → Bool
+splitsFit f r = leb (r .splits) (votedBits f r)
+
 -- bits that have not come in are 0
 abbrev pub restFits : Format → Reception → Bool
 restFits f r = eqb (r .word % 2 ^ (wordBits f + 1 - votedBits f r)) 0
 
 unfoldable pub receptionFits : Format → Reception → Bool
-receptionFits f r = every (receptionWithin f r ∷ isUndecided f r ∷ firstFits f r ∷ secondFits f r ∷ restFits f r ∷ [])
+receptionFits f r =
+    every (receptionWithin f r ∷ isUndecided f r ∷ firstFits f r ∷ secondFits f r ∷ splitsFit f r ∷ restFits f r ∷ [])
 
 abbrev pub isNoReception : Reception → Bool
-isNoReception r = eqb (r .bit) 0 && eqb (r .sample .0) 0 && not (r .first) && not (r .second) && eqb (r .word) 0
+isNoReception r =
+    eqb (r .bit) 0 && eqb (r .sample .0) 0 && not (r .first) && not (r .second) && eqb (r .word) 0 && eqb (r .splits) 0
 
 -- a frame under way keeps no last sample
 unfoldable pub samplerFits : Format → Bool → Bool → Reception → Bool
@@ -104,7 +110,7 @@ usartFits b =
     ∷ bufferFits (formatAt b) (setAt b fullByte) (wordAt b dataByte)
     ∷ shifterFits (formatAt b) (setAt b sendingByte) (transmissionAt b)
     ∷ samplerFits (formatAt b) (setAt b receivingByte) (setAt b lastByte) (receptionAt b)
-    ∷ placesFit (byteAt b heldByte) (wordAt b oldestByte) (wordAt b nextByte)
+    ∷ placesFit (byteAt b heldByte) (tripleAt b oldestByte) (tripleAt b nextByte)
     ∷ enabledFits (controlAt b .rxen) (setAt b receivingByte) (setAt b lastByte) (byteAt b heldByte) (setAt b lostByte)
     ∷ [])
 

@@ -29,8 +29,9 @@ knownSize n = sizeIn (sizeOf n)
 abbrev pub marksOf : Frame → ℕ
 marksOf f = f .«data» / 256 % 2 + digit (f .upe) * 2 + digit (f .dor) * 4 + digit (f .fe) * 8
 
-abbrev pub frameFrom : ℕ → ℕ → Frame
-frameFrom l m = record { «data» = l + 256 * (m % 2); fe = isSet m 8; upe = isSet m 2; dor = isSet m 4 }
+-- the frame of its three bytes: the data's low byte, the marks, and the split votes
+abbrev pub frameFrom : ℕ → ℕ → ℕ → Frame
+frameFrom l m c = record { «data» = l + 256 * (m % 2); fe = isSet m 8; upe = isSet m 2; dor = isSet m 4; splits = c }
 
 -- 0 clear, 1 set, 2 set and armed
 abbrev pub flagCode : Flag → ℕ

@@ -54,9 +54,9 @@ imageWith d k s r m g =
     ∷ s .transmission .bit ∷ s .transmission .sample .0
     ∷ bit (r .receiving) ∷ bit (r .last) ∷ r .reception .bit ∷ r .reception .sample .0
     ∷ bit (r .reception .first) ∷ bit (r .reception .second) ∷ low (r .reception .word) ∷ high (r .reception .word)
-    ∷ 0 ∷ r .held ∷ 0 ∷ bit (d .usart .receiver .queue .lost)
-    ∷ low (r .oldest .«data») ∷ m .oldest ∷ 0
-    ∷ low (r .second .«data») ∷ m .second ∷ 0
+    ∷ r .reception .splits ∷ r .held ∷ 0 ∷ bit (d .usart .receiver .queue .lost)
+    ∷ low (r .oldest .«data») ∷ m .oldest ∷ r .oldest .splits
+    ∷ low (r .second .«data») ∷ m .second ∷ r .second .splits
     ∷ 0 ∷ 0 ∷ 0 ∷ 0 ∷ 0 ∷ 0
     ∷ 0 ∷ 0 ∷ 0 ∷ 0 ∷ 0 ∷ 0 ∷ 0 ∷ 0
     ∷ d .spi .control .spcr ∷ bit (d .spi .control .spi2x) ∷ d .spi .control .ddrb

@@ -72,7 +72,10 @@ secondByte = 21
 abbrev pub wordByte : ℕ
 wordByte = 22
 
--- the frames held for reading: each its data's low byte, then its marks
+abbrev pub splitsByte : ℕ
+splitsByte = 24
+
+-- the frames held for reading: each its data's low byte, its marks, then its split votes
 
 abbrev pub heldByte : ℕ
 heldByte = 25
@@ -133,8 +136,8 @@ most =
     255 ∷ 15 ∷ 255 ∷ 15 ∷ 66 ∷ 253 ∷ 62 ∷ 0
     ∷ 1 ∷ 255 ∷ 1 ∷ 1 ∷ 255 ∷ 3 ∷ 12 ∷ 15
     ∷ 1 ∷ 1 ∷ 11 ∷ 15 ∷ 1 ∷ 1 ∷ 255 ∷ 3
-    ∷ 0 ∷ 2 ∷ 0 ∷ 1 ∷ 255 ∷ 15 ∷ 0 ∷ 255
-    ∷ 15 ∷ 0 ∷ 0 ∷ 0 ∷ 0 ∷ 0 ∷ 0 ∷ 0
+    ∷ 11 ∷ 2 ∷ 0 ∷ 1 ∷ 255 ∷ 15 ∷ 12 ∷ 255
+    ∷ 15 ∷ 12 ∷ 0 ∷ 0 ∷ 0 ∷ 0 ∷ 0 ∷ 0
     ∷ 0 ∷ 0 ∷ 0 ∷ 0 ∷ 0 ∷ 0 ∷ 0 ∷ 0
     ∷ 255 ∷ 1 ∷ 255 ∷ 255 ∷ 255 ∷ 15 ∷ 64 ∷ 2
     ∷ 2 ∷ 1 ∷ 1 ∷ 1 ∷ 0 ∷ 0 ∷ 0 ∷ 2
@@ -144,13 +147,16 @@ most =
 abbrev pub limits : List ℕ
 limits = map suc most
 
--- a byte; a word of two, low byte first; a flag
+-- a byte; a word of two and a number of three, low byte first; a flag
 
 abbrev pub byteAt : List ℕ → ℕ → ℕ
 byteAt b i = getD b i 0
 
 abbrev pub wordAt : List ℕ → ℕ → ℕ
 wordAt b i = getD b i 0 + 256 * getD b (i + 1) 0
+
+abbrev pub tripleAt : List ℕ → ℕ → ℕ
+tripleAt b i = getD b i 0 + 256 * getD b (i + 1) 0 + 65536 * getD b (i + 2) 0
 
 abbrev pub setAt : List ℕ → ℕ → Bool
 setAt b i = eqb (getD b i 0) 1

@@ -51,7 +51,7 @@ rememberedIn (Idle last) = last
 rememberedIn (Receiving r) = false
 
 abbrev pub receptionIn : Sampler → Reception
-receptionIn (Idle last) = record { bit = 0; sample = record { 0 = 0 }; first = false; second = false; word = 0 }
+receptionIn (Idle last) = record { bit = 0; sample = record { 0 = 0 }; first = false; second = false; word = 0; splits = 0 }
 receptionIn (Receiving r) = r
 
 unfoldable pub samplerFrom : Bool → Bool → Reception → Sampler

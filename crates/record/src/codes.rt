@@ -15,6 +15,13 @@ pub fn word(low: u8, high: u8) -> u16
     low as u16 + 256 * (high as u16)
 }
 
+// Three bytes, low byte first.
+pub fn triple(low: u8, middle: u8, high: u8) -> u32
+    ensures { λ r. ⌜ r ≡ low + 256 * middle + 65536 * high ⌝ }
+{
+    low as u32 + 256 * (middle as u32) + 65536 * (high as u32)
+}
+
 // UCSZ2:0, from UCSR0B and UCSR0C.
 pub fn size_code(b: u8, c: u8) -> u8
     ensures { λ r. ⌜ r ≡ sizeCode b c ⌝ }
@@ -50,15 +57,16 @@ pub fn marks(f: Frame) -> u8
     (f.data / 256 % 2) as u8 + digit(f.upe) * 2 + digit(f.dor) * 4 + digit(f.fe) * 8
 }
 
-// The frame of its two bytes.
-pub fn frame_of(low: u8, marks: u8) -> Frame
-    ensures { λ r. ⌜ r ≡ frameFrom low marks ⌝ }
+// The frame of its three bytes.
+pub fn frame_of(low: u8, marks: u8, splits: u8) -> Frame
+    ensures { λ r. ⌜ r ≡ frameFrom low marks splits ⌝ }
 {
     Frame {
         data: word(low, marks % 2),
         fe: marks / 8 % 2 == 1,
         upe: marks / 2 % 2 == 1,
         dor: marks / 4 % 2 == 1,
+        splits,
     }
 }
 

@@ -46,7 +46,9 @@ pub const SECOND: usize = 21;
 
 pub const WORD: usize = 22;
 
-// The frames held for reading: each its data's low byte, then its marks.
+pub const SPLITS: usize = 24;
+
+// The frames held for reading: each its data's low byte, its marks, then its split votes.
 
 pub const HELD: usize = 25;
 
@@ -90,8 +92,8 @@ pub const MOST: [u8; LENGTH] = [
     255, 15, 255, 15, 66, 253, 62, 0,
     1, 255, 1, 1, 255, 3, 12, 15,
     1, 1, 11, 15, 1, 1, 255, 3,
-    0, 2, 0, 1, 255, 15, 0, 255,
-    15, 0, 0, 0, 0, 0, 0, 0,
+    11, 2, 0, 1, 255, 15, 12, 255,
+    15, 12, 0, 0, 0, 0, 0, 0,
     0, 0, 0, 0, 0, 0, 0, 0,
     255, 1, 255, 255, 255, 15, 64, 2,
     2, 1, 1, 1, 0, 0, 0, 2,

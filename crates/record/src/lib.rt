@@ -24,3 +24,4 @@ pub use put_back::settle;
 pub use put_back::settle_read;
 pub use report::Reported;
 pub use report::requests;
+pub use report::split_votes;

@@ -106,6 +106,7 @@ fn reception(s: Sampler) -> Reception
             first: false,
             second: false,
             word: 0,
+            splits: 0,
         },
         Sampler::Receiving(r) => r,
     }
@@ -138,6 +139,7 @@ fn second(p: Places) -> Frame
         fe: false,
         upe: false,
         dor: false,
+        splits: 0,
     };
     match p {
         Places::Empty => none,

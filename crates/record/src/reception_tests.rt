@@ -5,7 +5,7 @@ ghost use mathlib.Core.Path.{_≡_};
 ghost use Prim.Native.Nat.{_+_, _-_, _^_, _≤_};
 ghost use Rattle.frame.specs.Format.{wordBits};
 ghost use Rattle.usart.specs.Valid.{votedBits};
-ghost use Rattle.record.specs.Accepts.{receptionWithin, isUndecided, firstFits, secondFits, restFits, receptionFits, isNoReception};
+ghost use Rattle.record.specs.Accepts.{receptionWithin, isUndecided, firstFits, secondFits, splitsFit, restFits, receptionFits, isNoReception};
 
 // Up to the first stop bit.
 fn reception_within(f: Format, r: Reception) -> bool
@@ -58,6 +58,17 @@ fn less(a: u8, b: u8) -> u8
     if b < a { a - b } else { 0 }
 }
 
+// No more votes are split than bits are decided. (One less than the splits, not one more than the bit: neither can run
+// over.)
+fn splits_fit(f: Format, r: Reception) -> bool
+    ensures { λ b. ⌜ b ≡ splitsFit f r ⌝ }
+{
+    if r.sample.0 < f.first_vote() + 2 {
+        return r.splits <= r.bit;
+    }
+    less(r.splits, 1) <= r.bit
+}
+
 // Bits of the word that have not come in; one more while the start bit is not decided.
 fn missing(f: Format, r: Reception) -> u8
     ensures { λ n. ⌜ n ≡ wordBits f + 1 - votedBits f r ⌝ }
@@ -100,11 +111,14 @@ pub fn reception_fits(f: Format, r: Reception) -> bool
     if !second_fits(f, r) {
         return false;
     }
+    if !splits_fit(f, r) {
+        return false;
+    }
     rest_fits(f, r)
 }
 
 pub fn no_reception(r: Reception) -> bool
     ensures { λ b. ⌜ b ≡ isNoReception r ⌝ }
 {
-    (r.bit == 0) & (r.sample.0 == 0) & !r.first & !r.second & (r.word == 0)
+    (r.bit == 0) & (r.sample.0 == 0) & !r.first & !r.second & (r.word == 0) & (r.splits == 0)
 }

@@ -1,4 +1,4 @@
-// The requests by the bytes alone: of a device only the SPI is lifted.
+// What a query answers, by the bytes alone: of a device only the SPI is lifted, for its requests.
 use crate::codec::is_record;
 use crate::layout;
 use crate::spi_lift::spi_at;
@@ -10,7 +10,7 @@ ghost use Prim.Native.Nat.{_≤_};
 ghost use lib.ListN.{length};
 ghost use Rattle.choice.specs.Pick.{pick, digit};
 ghost use Rattle.usart.specs.Unit.{requestsOf as serialRequests};
-ghost use Rattle.device.specs.Unit.{requestsOf};
+ghost use Rattle.device.specs.Unit.{requestsOf, splitVotes};
 ghost use Rattle.record.specs.Layout.{recordLength};
 ghost use Rattle.record.specs.Lift.{usartAt, deviceAt};
 ghost use Rattle.record.specs.Report.{reportOf};
@@ -18,8 +18,8 @@ ghost use Rattle.record.specs.Report.{reportOf};
 pub enum Reported {
     // No record.
     Refused,
-    // The request bits.
-    Bits(u8),
+    // What is asked of its device.
+    Value(u8),
 }
 
 // A flag with its enable, as a digit.
@@ -53,10 +53,20 @@ fn requests_at(s: &[u8]) -> u8
 }
 
 pub fn requests(s: &[u8]) -> Reported
-    ensures { λ r. ⌜ r ≡ reportOf (now (s .entry)) ⌝ }
+    ensures { λ r. ⌜ r ≡ reportOf requestsOf (now (s .entry)) ⌝ }
 {
     if is_record(s) {
-        return Reported::Bits(requests_at(s));
+        return Reported::Value(requests_at(s));
+    }
+    Reported::Refused
+}
+
+// What is not in use is 0, so it need not be looked at whether a frame is held.
+pub fn split_votes(s: &[u8]) -> Reported
+    ensures { λ r. ⌜ r ≡ reportOf splitVotes (now (s .entry)) ⌝ }
+{
+    if is_record(s) {
+        return Reported::Value(s[layout::OLDEST + 2]);
     }
     Reported::Refused
 }

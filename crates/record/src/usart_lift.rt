@@ -146,6 +146,7 @@ pub(crate) fn reception_at(s: &[u8]) -> Reception
         first: s[layout::FIRST] == 1,
         second: s[layout::SECOND] == 1,
         word: word(s[layout::WORD], s[layout::WORD + 1]),
+        splits: s[layout::SPLITS],
     }
 }
 
@@ -164,8 +165,12 @@ fn places_at(s: &[u8]) -> Places
     requires { ⌜ length (now s) ≡ recordLength ⌝ }
     ensures { λ r. ⌜ r ≡ placesAt (now (s .entry)) ⌝ }
 {
-    let a = frame_of(s[layout::OLDEST], s[layout::OLDEST + 1]);
-    let b = frame_of(s[layout::NEXT], s[layout::NEXT + 1]);
+    let a = frame_of(
+        s[layout::OLDEST],
+        s[layout::OLDEST + 1],
+        s[layout::OLDEST + 2],
+    );
+    let b = frame_of(s[layout::NEXT], s[layout::NEXT + 1], s[layout::NEXT + 2]);
     places_of(s[layout::HELD], a, b)
 }
 

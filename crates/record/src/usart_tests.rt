@@ -1,6 +1,7 @@
 // What is asked of the serial unit's bytes beyond their limits (docs/RECORD.md, 'Rules that depend on other fields').
 use crate::codes::known;
 use crate::codes::size_code;
+use crate::codes::triple;
 use crate::codes::word;
 use crate::layout;
 use crate::reception_tests::no_reception;
@@ -15,7 +16,7 @@ use usart::Reception;
 use usart::Transmission;
 ghost use mathlib.Core.Path.{_≡_};
 ghost use lib.ListN.{length};
-ghost use Rattle.record.specs.Layout.{recordLength, ucsr0aByte, ucsr0bByte, ucsr0cByte, fullByte, dataByte, sendingByte, receivingByte, lastByte, heldByte, lostByte, oldestByte, nextByte, byteAt, wordAt, setAt};
+ghost use Rattle.record.specs.Layout.{recordLength, ucsr0aByte, ucsr0bByte, ucsr0cByte, fullByte, dataByte, sendingByte, receivingByte, lastByte, heldByte, lostByte, oldestByte, nextByte, byteAt, wordAt, tripleAt, setAt};
 ghost use Rattle.record.specs.Lift.{baudAt, controlAt, transmissionAt, receptionAt};
 ghost use Rattle.record.specs.Accepts.{settingsFit, counterFits, bufferFits, transmissionFits, isNoTransmission, shifterFits, samplerFits, placesFit, enabledFits, usartFits};
 
@@ -99,7 +100,7 @@ fn sampler_test(f: Format, receiving: bool, last: bool, r: Reception) -> bool
 }
 
 // Places that hold no frame are 0.
-fn places_test(held: u8, oldest: u16, second: u16) -> bool
+fn places_test(held: u8, oldest: u32, second: u32) -> bool
     ensures { λ r. ⌜ r ≡ placesFit held oldest second ⌝ }
 {
     if held == 2 {
@@ -164,10 +165,14 @@ fn sampler_fits(s: &[u8], f: Format) -> bool
 
 fn places_fit(s: &[u8]) -> bool
     requires { ⌜ length (now s) ≡ recordLength ⌝ }
-    ensures { λ r. ⌜ r ≡ placesFit (byteAt (now (s .entry)) heldByte) (wordAt (now (s .entry)) oldestByte) (wordAt (now (s .entry)) nextByte) ⌝ }
+    ensures { λ r. ⌜ r ≡ placesFit (byteAt (now (s .entry)) heldByte) (tripleAt (now (s .entry)) oldestByte) (tripleAt (now (s .entry)) nextByte) ⌝ }
 {
-    let a = word(s[layout::OLDEST], s[layout::OLDEST + 1]);
-    let b = word(s[layout::NEXT], s[layout::NEXT + 1]);
+    let a = triple(
+        s[layout::OLDEST],
+        s[layout::OLDEST + 1],
+        s[layout::OLDEST + 2],
+    );
+    let b = triple(s[layout::NEXT], s[layout::NEXT + 1], s[layout::NEXT + 2]);
     places_test(s[layout::HELD], a, b)
 }
 

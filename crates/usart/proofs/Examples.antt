@@ -1,8 +1,10 @@
 -- Closed units and lists of events. The cases (`Cases.antt`), the witnesses (`Witness.antt`) and the refutations of
 -- wrong programs (refutations/) are about these.
 use Prim.Native.Nat.{ℕ, zero, suc}
-use mathlib.Core.Bool.{Bool, true, false}
+use mathlib.Core.Bool.{Bool, true, false, not}
 use mathlib.Core.List.{List, [], _∷_}
+use lib.Dec.{eqb}
+use Rattle.choice.specs.Pick.{pick}
 use Rattle.frame.specs.declared.format.Size.the-variants.{Five}
 use Rattle.frame.specs.declared.format.Parity.the-variants.{Off, Even}
 use Rattle.usart.specs.Receiver.{stopped}
@@ -41,6 +43,23 @@ run j (suc n) es = clock (level j) ∷ run (suc j) n es
 unfoldable pub received : List Event
 received =
     run 0 20 (write Ubrr0l 7 ∷ write Ucsr0c 192 ∷ read Ucsr0a ∷ write Udr0 85 ∷ vector ∷ read Udr0 ∷ run 20 60 (read Udr0 ∷ run 80 60 []))
+
+-- noise turns over one vote of each of five bits: of the start, a data, the parity and the stop bit of the first frame,
+-- and of the start bit of the second. A bit's votes are samples 4, 5 and 6, the first sample being the start clock's
+unfoldable pub isHit : ℕ → List ℕ → Bool
+isHit j [] = false
+isHit j (k ∷ ks) = pick (eqb j k) true (isHit j ks)
+
+unfoldable pub hitClocks : List ℕ
+hitClocks = 6 ∷ 23 ∷ 56 ∷ 62 ∷ 74 ∷ []
+
+unfoldable pub noisyRun : ℕ → ℕ → List Event
+noisyRun j zero = []
+noisyRun j (suc n) = clock (pick (isHit j hitClocks) (not (level j)) (level j)) ∷ noisyRun (suc j) n
+
+-- neither frame is read
+unfoldable pub noisy : List Event
+noisy = noisyRun 0 140
 
 -- a sender: 5 data bits, two stop bits, double speed, UBRR 1, so that a bit is 16 clocks and a frame 128. The buffer
 -- holds 21, and the first tick is at clock 1

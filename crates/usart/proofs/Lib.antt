@@ -7,6 +7,8 @@ pub mod Rates
 pub mod LineLaws
 pub mod Noise
 pub mod ShiftLaws
+pub mod TallyLaws
+pub mod CountedHits
 pub mod OneTick
 pub mod ReadLaws
 pub mod WriteLaws

@@ -32,7 +32,7 @@ use Rattle.usart.specs.declared.unit.Usart.{Usart}
 use Rattle.usart.specs.declared.write.Register.the-variants.{Ucsr0a, Ucsr0b, Ucsr0c, Ubrr0l, Ubrr0h, Udr0}
 use Rattle.usart.proofs.Rates.{Rates, rates, tick-short, vote-high}
 use Rattle.usart.proofs.LineLaws.{From, spaced-from, past}
-use Rattle.usart.proofs.Noise.{hits}
+use Rattle.usart.proofs.Noise.{Hits, unhit, hits, quiet-bits}
 use Rattle.usart.proofs.OneTick.{Inv, GoodFor, keep, tick-good}
 use Rattle.usart.proofs.ReadLaws.{taken-held}
 use Rattle.usart.proofs.EventLaws.{OnlySender, only-write, only-vector}
@@ -55,13 +55,13 @@ shows-same : (w w′ : ℕ → Bool) (j : ℕ) (ls : List Bool) → ((i : ℕ) �
 shows-same w w′ j [] h o = o
 shows-same w w′ j (l ∷ ls) h o = (o .0 ∙ h j (omega arith), shows-same w w′ (suc j) ls (λ i t. h i (omega arith)) (o .1))
 
--- a frame that completes with its word and a high stop bit is the line's, and clean
-seen-clean : (f : Format) (s : Sent) (word : ℕ) (stop : Bool) → s .«data» < 2 ^ dataBits (f .size) → word ≡ wordOf f (s .«data») → stop ≡ true
-    → seenIn (markedOf (frameOf f word stop) false) ≡ clean s
-seen-clean f s word stop h ew es =
+-- a frame that completes with its word, a high stop bit and no split vote is the line's, and clean
+seen-clean : (f : Format) (s : Sent) (word : ℕ) (stop : Bool) (splits : ℕ) → s .«data» < 2 ^ dataBits (f .size) → word ≡ wordOf f (s .«data»)
+    → stop ≡ true → splits ≡ 0 → seenIn (markedOf (frameOf f word stop splits) false) ≡ clean s
+seen-clean f s word stop splits h ew es ec =
     let d : dataOf f word ≡ s .«data» = ap (dataOf f) ew ∙ data-word f (s .«data») ∙ mod-eq-of-lt h in
     let p : parityError f word ≡ false = ap (parityError f) ew ∙ parity-right f (s .«data») in
-    rw (d, p, es)
+    rw (d, p, es, ec)
 
 module _ (f : Format) (ubrr P Q : ℕ) (R : Rates (firstVote f) (ubrr + 1) P Q (wordBits f)) where
   abbrev D : ℕ
@@ -77,7 +77,7 @@ module _ (f : Format) (ubrr P Q : ℕ) (R : Rates (firstVote f) (ubrr + 1) P Q (
     rxen : u .control .rxen ≡ true
 
   -- a frame still to come has not ended
-  none-left : (s : Sent) (ss : List Sent) (j k : ℕ) (p : Sampler) (e : ℕ) → Inv f M j k p e (s ∷ ss) → s .start * Q + (D + 2) * P ≤ j * Q → ⊥
+  none-left : (s : Sent) (ss : List Sent) (j k : ℕ) (p : Sampler) (e : Hits) → Inv f M j k p e (s ∷ ss) → s .start * Q + (D + 2) * P ≤ j * Q → ⊥
   none-left s ss j k (Idle last) e i h = omega (arith, mul-le-mul-right Q (i .1), tick-short R, R.q1)
   none-left s ss j k (Receiving r) e i h =
       let v : ℕ = firstVote f in
@@ -96,8 +96,9 @@ module _ (f : Format) (ubrr P Q : ℕ) (R : Rates (firstVote f) (ubrr + 1) P Q (
     frames : readsOf u es ++ map seenIn (heldBy (finalOf u es)) ≡ map seenIn (heldBy u) ++ map clean fs
     inTime : InTime D P Q (entriesOf j u es) fs
 
-  record Given (fs : List Sent) (lo j : ℕ) (u : Usart) (e : ℕ) (es : List Event) : Type 0 where
+  record Given (fs : List Sent) (lo j : ℕ) (u : Usart) (e : Hits) (es : List Event) : Type 0 where
     stays : Stays u
+    unhit : e .bits ≡ 0
     noLoss : u .receiver .queue .lost ≡ false
     from : From D P Q lo fs
     fits : Fits f fs
@@ -108,7 +109,7 @@ module _ (f : Format) (ubrr P Q : ℕ) (R : Rates (firstVote f) (ubrr + 1) P Q (
     ended : AllEnded D P Q (j + length (levelsOf es)) fs
 
   abbrev Claim : List Event → Type 0
-  Claim es = (fs : List Sent) (lo j : ℕ) (u : Usart) (e : ℕ) → Given fs lo j u e es → Goes fs j u es
+  Claim es = (fs : List Sent) (lo j : ℕ) (u : Usart) (e : Hits) → Given fs lo j u e es → Goes fs j u es
 
   claim-nil : Claim []
   claim-nil [] lo j u e g = record { frames = sym (append-nil (map seenIn (heldBy u))); inTime = tt }
@@ -121,12 +122,13 @@ module _ (f : Format) (ubrr P Q : ℕ) (R : Rates (firstVote f) (ubrr + 1) P Q (
       (readsOf v es ++ map seenIn (heldBy (finalOf v es)) ≡ map seenIn (heldBy u) ++ map clean fs) × InTime D P Q (n ++ entriesOf j′ v es) fs
 
   -- an event that changes the sender alone
-  aside : (es : List Event) → Claim es → (fs : List Sent) (lo j : ℕ) (u v : Usart) (e : ℕ) → OnlySender u v → Stays u → u .receiver .queue .lost ≡ false
+  aside : (es : List Event) → Claim es → (fs : List Sent) (lo j : ℕ) (u v : Usart) (e : Hits) → OnlySender u v → Stays u → e .bits ≡ 0 → u .receiver .queue .lost ≡ false
       → From D P Q lo fs → Fits f fs → Inv f M j (u .baud .left .0) (u .receiver .sampler) e fs → Shows (lineLevel f P Q fs) j (levelsOf es)
       → OnlyData v es → Free v es → AllEnded D P Q (j + length (levelsOf es)) fs → Then es fs j j [] u v
-  aside es ih fs lo j u v e (s, eq) st nl fr fi i sh on fe en =
+  aside es ih fs lo j u v e (s, eq) st un nl fr fi i sh on fe en =
       let d = ih fs lo j v e (record {
         stays = record { format = ap (λ (x : Usart). x .format) eq ∙ st .format; rate = ap (λ (x : Usart). x .baud .ubrr) eq ∙ st .rate; rxen = ap (λ (x : Usart). x .control .rxen) eq ∙ st .rxen };
+        unhit = un;
         noLoss = ap (λ (x : Usart). x .receiver .queue .lost) eq ∙ nl;
         from = fr;
         fits = fi;
@@ -139,11 +141,12 @@ module _ (f : Format) (ubrr P Q : ℕ) (R : Rates (firstVote f) (ubrr + 1) P Q (
       (d .frames ∙ ap (λ (x : Usart). map seenIn (heldBy x) ++ map clean fs) eq, d .inTime)
 
   -- a read of UDR0
-  popped : (es : List Event) → Claim es → (fs : List Sent) (lo j : ℕ) (u : Usart) (e : ℕ) → Given fs lo j u e (read Udr0 ∷ es) → Goes fs j u (read Udr0 ∷ es)
+  popped : (es : List Event) → Claim es → (fs : List Sent) (lo j : ℕ) (u : Usart) (e : Hits) → Given fs lo j u e (read Udr0 ∷ es) → Goes fs j u (read Udr0 ∷ es)
   popped es ih fs lo j u e g =
       let v : Usart = nextOf u (read Udr0) in
       let d = ih fs lo j v e (record {
         stays = record { format = g .stays .format; rate = g .stays .rate; rxen = g .stays .rxen };
+        unhit = g .unhit;
         noLoss = g .noLoss;
         from = g .from;
         fits = g .fits;
@@ -165,16 +168,17 @@ module _ (f : Format) (ubrr P Q : ℕ) (R : Rates (firstVote f) (ubrr + 1) P Q (
   entered j b b′ x e = rw (lt-ltb (length b) (length b′) (omega (arith, ap length e, length-append b (x ∷ []))))
 
   -- a tick that leads to v, with its outcome
-  after : (es : List Event) → Claim es → (fs : List Sent) (lo j : ℕ) (u v : Usart) (p : Sampler) (o : Outcome) (e : ℕ)
-      → v ≡ tickedAs u (record { sampler = p; queue = putOf f (u .receiver .queue) o }) → Stays u → u .receiver .queue .lost ≡ false
+  after : (es : List Event) → Claim es → (fs : List Sent) (lo j : ℕ) (u v : Usart) (p : Sampler) (o : Outcome) (e : Hits)
+      → v ≡ tickedAs u (record { sampler = p; queue = putOf f (u .receiver .queue) o }) → Stays u → e .bits ≡ 0 → u .receiver .queue .lost ≡ false
       → From D P Q lo fs → Fits f fs → GoodFor f M P Q j ubrr p e fs o → Shows (lineLevel f P Q fs) (suc j) (levelsOf es)
       → OnlyData v es → Free v es → (isComplete o ≡ true → length (heldBy u) < 2) → AllEnded D P Q (suc j + length (levelsOf es)) fs
       → Then es fs j (suc j) (pick (ltb (length (heldBy u)) (length (heldBy v))) (j ∷ []) []) u v
-  after es ih fs lo j u v p Nothing e eq st nl fr fi g sh on fe room en =
+  after es ih fs lo j u v p Nothing e eq st un nl fr fi g sh on fe room en =
       let left : v .baud .left .0 ≡ ubrr = ap (λ (x : Usart). x .baud .left .0) eq ∙ st .rate in
       let held : heldBy v ≡ heldBy u = ap heldBy eq in
       let d = ih fs lo (suc j) v e (record {
         stays = record { format = ap (λ (x : Usart). x .format) eq ∙ st .format; rate = ap (λ (x : Usart). x .baud .ubrr) eq ∙ st .rate; rxen = ap (λ (x : Usart). x .control .rxen) eq ∙ st .rxen };
+        unhit = un;
         noLoss = ap (λ (x : Usart). x .receiver .queue .lost) eq ∙ nl;
         from = fr;
         fits = fi;
@@ -187,19 +191,20 @@ module _ (f : Format) (ubrr P Q : ℕ) (R : Rates (firstVote f) (ubrr + 1) P Q (
         d .frames ∙ ap (λ (x : List Frame). map seenIn x ++ map clean fs) held,
         rw (held, le-ltb (length (heldBy u)) (length (heldBy u)) (omega arith)) (d .inTime),
       )
-  after es ih [] lo j u v p (Complete word stop) e eq st nl fr fi g sh on fe room en = absurd g
-  after es ih (s ∷ ss) lo j u v p (Complete word stop) e eq st nl fr fi g sh on fe room en =
-      let x : Frame = markedOf (frameOf f word stop) (u .receiver .queue .lost) in
+  after es ih [] lo j u v p (Complete word stop splits) e eq st un nl fr fi g sh on fe room en = absurd g
+  after es ih (s ∷ ss) lo j u v p (Complete word stop splits) e eq st un nl fr fi g sh on fe room en =
+      let x : Frame = markedOf (frameOf f word stop splits) (u .receiver .queue .lost) in
       let c = g .0 in
       let left : v .baud .left .0 ≡ ubrr = ap (λ (x : Usart). x .baud .left .0) eq ∙ st .rate in
-      let put = stored-held (u .receiver .queue .places) (u .receiver .queue .lost) (frameOf f word stop) (room refl) in
+      let put = stored-held (u .receiver .queue .places) (u .receiver .queue .lost) (frameOf f word stop splits) (room refl) in
       let held : heldBy v ≡ heldBy u ++ (x ∷ []) = ap heldBy eq ∙ put .0 in
-      let same : seenIn x ≡ clean s = ap (λ (b : Bool). seenIn (markedOf (frameOf f word stop) b)) nl ∙ seen-clean f s word stop (fi .0) (c .bits) (c .high) in
+      let same : seenIn x ≡ clean s = ap (λ (b : Bool). seenIn (markedOf (frameOf f word stop splits) b)) nl ∙ seen-clean f s word stop splits (fi .0) (c .bits) (c .high) (c .count ∙ un) in
       let rest : (i : ℕ) → suc j ≤ i → lineLevel f P Q (s ∷ ss) i ≡ lineLevel f P Q ss i =
       λ i h. past f P Q s ss i R.p1 (fr .1) (omega (arith, c .began))
       (let z : (j - s .start) * Q ≤ (i - s .start) * Q = mul-le-mul-right Q (omega arith) in omega (arith, c .over)) in
       let d = ih ss (s .start * Q + (D + 2) * P) (suc j) v e (record {
         stays = record { format = ap (λ (x : Usart). x .format) eq ∙ st .format; rate = ap (λ (x : Usart). x .baud .ubrr) eq ∙ st .rate; rxen = ap (λ (x : Usart). x .control .rxen) eq ∙ st .rxen };
+        unhit = un;
         noLoss = ap (λ (x : Usart). x .receiver .queue .lost) eq ∙ put .1;
         from = fr .1;
         fits = fi .1;
@@ -217,7 +222,7 @@ module _ (f : Format) (ubrr P Q : ℕ) (R : Rates (firstVote f) (ubrr + 1) P Q (
       )
 
   -- a clock, by the baud counter before it
-  clocked : (es : List Event) → Claim es → (fs : List Sent) (lo j : ℕ) (u : Usart) (e : ℕ) (l : Bool) → Given fs lo j u e (clock l ∷ es)
+  clocked : (es : List Event) → Claim es → (fs : List Sent) (lo j : ℕ) (u : Usart) (e : Hits) (l : Bool) → Given fs lo j u e (clock l ∷ es)
       → (k : ℕ) → u .baud .left .0 ≡ k
       → Then es fs j (suc j) (pick (ltb (length (heldBy u)) (length (heldBy (clockOf u l)))) (j ∷ []) []) u (clockOf u l)
   clocked es ih fs lo j u e l g zero left =
@@ -229,7 +234,7 @@ module _ (f : Format) (ubrr P Q : ℕ) (R : Rates (firstVote f) (ubrr + 1) P Q (
       let done : outcomeAt u l ≡ o .outcome =
       outcome-tick u l left (g .stays .rxen) ∙ ap (λ (x : Format). samplerOf x p l .outcome) (g .stays .format) in
       let i : Inv f M j 0 p e fs = rw left at (g .inv) in
-      after es ih fs lo j u (clockOf u l) (o .sampler) (o .outcome) (hits f p e false) eq (g .stays) (g .noLoss) (g .from) (g .fits)
+      after es ih fs lo j u (clockOf u l) (o .sampler) (o .outcome) (hits f p e false) eq (g .stays) (quiet-bits f p e (g .unhit)) (g .noLoss) (g .from) (g .fits)
       (tick-good f ubrr P Q R fs lo j p e false l (g .from) (g .shows .0) tt i) (g .shows .1) (g .only) (g .free .1)
       (λ q. g .free .0 (ap isComplete done ∙ q)) (subst (λ (n : ℕ). AllEnded D P Q n fs) (omega arith) (g .ended))
   clocked es ih fs lo j u e l g (suc k) left =
@@ -239,6 +244,7 @@ module _ (f : Format) (ubrr P Q : ℕ) (R : Rates (firstVote f) (ubrr + 1) P Q (
       let i : Inv f M (suc j) k (u .receiver .sampler) e fs = keep f M j k (u .receiver .sampler) e fs (rw left at (g .inv)) in
       let d = ih fs lo (suc j) v e (record {
         stays = record { format = ap (λ (x : Usart). x .format) eq ∙ g .stays .format; rate = ap (λ (x : Usart). x .baud .ubrr) eq ∙ g .stays .rate; rxen = ap (λ (x : Usart). x .control .rxen) eq ∙ g .stays .rxen };
+        unhit = g .unhit;
         noLoss = ap (λ (x : Usart). x .receiver .queue .lost) eq ∙ g .noLoss;
         from = g .from;
         fits = g .fits;
@@ -258,37 +264,37 @@ module _ (f : Format) (ubrr P Q : ℕ) (R : Rates (firstVote f) (ubrr + 1) P Q (
       record { frames = t .0; inTime = t .1 }
 
   -- a read of another register changes nothing
-  looked : (es : List Event) → Claim es → (fs : List Sent) (lo j : ℕ) (u : Usart) (e : ℕ) → Stays u → u .receiver .queue .lost ≡ false → From D P Q lo fs
+  looked : (es : List Event) → Claim es → (fs : List Sent) (lo j : ℕ) (u : Usart) (e : Hits) → Stays u → e .bits ≡ 0 → u .receiver .queue .lost ≡ false → From D P Q lo fs
       → Fits f fs → Inv f M j (u .baud .left .0) (u .receiver .sampler) e fs → Shows (lineLevel f P Q fs) j (levelsOf es) → OnlyData u es → Free u es
       → AllEnded D P Q (j + length (levelsOf es)) fs → Goes fs j u es
-  looked es ih fs lo j u e st nl fr fi i sh on fe en =
-      ih fs lo j u e (record { stays = st; noLoss = nl; from = fr; fits = fi; inv = i; shows = sh; only = on; free = fe; ended = en })
+  looked es ih fs lo j u e st un nl fr fi i sh on fe en =
+      ih fs lo j u e (record { stays = st; unhit = un; noLoss = nl; from = fr; fits = fi; inv = i; shows = sh; only = on; free = fe; ended = en })
 
   claim : (es : List Event) → Claim es
   claim [] = claim-nil
   claim (clock l ∷ es) = claim-clock l es (claim es)
   claim (write r v ∷ es) = λ fs lo j u e g.
-      let t = aside es (claim es) fs lo j u (nextOf u (write r v)) e (only-write u r v (g .only .0)) (g .stays) (g .noLoss) (g .from) (g .fits) (g .inv)
+      let t = aside es (claim es) fs lo j u (nextOf u (write r v)) e (only-write u r v (g .only .0)) (g .stays) (g .unhit) (g .noLoss) (g .from) (g .fits) (g .inv)
       (g .shows) (g .only .1) (g .free) (g .ended) in
       record { frames = t .0; inTime = t .1 }
   claim (vector ∷ es) = λ fs lo j u e g.
-      let t = aside es (claim es) fs lo j u (nextOf u vector) e (only-vector u) (g .stays) (g .noLoss) (g .from) (g .fits) (g .inv) (g .shows) (g .only)
+      let t = aside es (claim es) fs lo j u (nextOf u vector) e (only-vector u) (g .stays) (g .unhit) (g .noLoss) (g .from) (g .fits) (g .inv) (g .shows) (g .only)
       (g .free) (g .ended) in
       record { frames = t .0; inTime = t .1 }
   claim (read Ucsr0a ∷ es) = λ fs lo j u e g.
-      let d = looked es (claim es) fs lo j u e (g .stays) (g .noLoss) (g .from) (g .fits) (g .inv) (g .shows) (g .only) (g .free) (g .ended) in
+      let d = looked es (claim es) fs lo j u e (g .stays) (g .unhit) (g .noLoss) (g .from) (g .fits) (g .inv) (g .shows) (g .only) (g .free) (g .ended) in
       record { frames = d .frames; inTime = d .inTime }
   claim (read Ucsr0b ∷ es) = λ fs lo j u e g.
-      let d = looked es (claim es) fs lo j u e (g .stays) (g .noLoss) (g .from) (g .fits) (g .inv) (g .shows) (g .only) (g .free) (g .ended) in
+      let d = looked es (claim es) fs lo j u e (g .stays) (g .unhit) (g .noLoss) (g .from) (g .fits) (g .inv) (g .shows) (g .only) (g .free) (g .ended) in
       record { frames = d .frames; inTime = d .inTime }
   claim (read Ucsr0c ∷ es) = λ fs lo j u e g.
-      let d = looked es (claim es) fs lo j u e (g .stays) (g .noLoss) (g .from) (g .fits) (g .inv) (g .shows) (g .only) (g .free) (g .ended) in
+      let d = looked es (claim es) fs lo j u e (g .stays) (g .unhit) (g .noLoss) (g .from) (g .fits) (g .inv) (g .shows) (g .only) (g .free) (g .ended) in
       record { frames = d .frames; inTime = d .inTime }
   claim (read Ubrr0l ∷ es) = λ fs lo j u e g.
-      let d = looked es (claim es) fs lo j u e (g .stays) (g .noLoss) (g .from) (g .fits) (g .inv) (g .shows) (g .only) (g .free) (g .ended) in
+      let d = looked es (claim es) fs lo j u e (g .stays) (g .unhit) (g .noLoss) (g .from) (g .fits) (g .inv) (g .shows) (g .only) (g .free) (g .ended) in
       record { frames = d .frames; inTime = d .inTime }
   claim (read Ubrr0h ∷ es) = λ fs lo j u e g.
-      let d = looked es (claim es) fs lo j u e (g .stays) (g .noLoss) (g .from) (g .fits) (g .inv) (g .shows) (g .only) (g .free) (g .ended) in
+      let d = looked es (claim es) fs lo j u e (g .stays) (g .unhit) (g .noLoss) (g .from) (g .fits) (g .inv) (g .shows) (g .only) (g .free) (g .ended) in
       record { frames = d .frames; inTime = d .inTime }
   claim (read Udr0 ∷ es) = popped es (claim es)
 
@@ -299,8 +305,9 @@ receives P Q fs u es h =
     let f : Format = u .format in
     let l : LineOn P Q fs f (u .baud .ubrr) (levelsOf es) = h .line in
     let fr : From (wordBits f) P Q 0 fs = spaced-from (wordBits f) P Q (l .p1) fs (l .spaced) in
-    let d = claim f (u .baud .ubrr) P Q (rates f (u .baud .ubrr) P Q (l .p1) (l .q1) (l .within)) es fs 0 0 u 0 (record {
+    let d = claim f (u .baud .ubrr) P Q (rates f (u .baud .ubrr) P Q (l .p1) (l .q1) (l .within)) es fs 0 0 u unhit (record {
       stays = record { format = refl; rate = refl; rxen = h .ready .enabled };
+      unhit = refl;
       noLoss = h .ready .noLoss;
       from = fr;
       fits = l .fits;
@@ -312,6 +319,6 @@ receives P Q fs u es h =
     }) in
     record { frames = d .frames ∙ ap (λ (p : Places). map seenIn (heldIn p) ++ map clean fs) (h .ready .empty); inTime = d .inTime }
   where
-    start : (ss : List Sent) → Inv (u .format) (u .baud .ubrr + 1) 0 (u .baud .left .0) (u .receiver .sampler) 0 ss
+    start : (ss : List Sent) → Inv (u .format) (u .baud .ubrr + 1) 0 (u .baud .left .0) (u .receiver .sampler) unhit ss
     start [] = rw (h .ready .idle)
     start (s ∷ ss) = rw (h .ready .idle) (refl, omega (arith, h .ready .counter))

@@ -12,7 +12,7 @@ use Rattle.choice.specs.Times.{times}
 use Rattle.choice.proofs.Picks.{pick-ind, split, clash}
 use Rattle.choice.proofs.Settling.{Settling, settles}
 use Rattle.frame.specs.Format.{samples, firstVote, wordBits, lastBit}
-use Rattle.frame.specs.Vote.{majorityOf}
+use Rattle.frame.specs.Vote.{voteOf}
 use Rattle.frame.specs.declared.format.Format.{Format}
 use Rattle.frame.specs.declared.format.Size.the-variants.{Nine}
 use Rattle.frame.specs.declared.format.Parity.the-variants.{Even}
@@ -126,9 +126,9 @@ module _ (f : Format) (l : Bool) where
       abbrev next : Sample
       next = record { 0 = r .sample .0 + 1 }
 
-      decided-nears : (level : Bool) → Nearer (decidedOf f (spentOf r next) l level)
+      decided-nears : (c : ℕ) (level : Bool) → Nearer (decidedOf f (spentOf r next c) l level)
       unfolding decidedOf shiftedOf
-      decided-nears level =
+      decided-nears c level =
           pick-ind Nearer (eqb (r .bit) 0) _ _ (λ _. pick-ind Nearer level _ _ (λ _. idle-nears) (λ _. omega (arith, inner)))
           (λ _. pick-ind Nearer (leb (r .bit) (wordBits f)) _ _
           (λ _. pick-ind (λ (x : Reception). samplerFar f l (Receiving x) < samplerFar f l (Receiving r)) level _ _ (λ _. omega (arith, inner)) (λ _. omega (arith, inner)))
@@ -157,7 +157,7 @@ module _ (f : Format) (l : Bool) where
         pick-ind Nearer (ltb (r .sample .0) (samples f - 1)) _ _
         (λ e.
         let inner = ltb-true (r .sample .0) (samples f - 1) e in
-        pick-ind Nearer (eqb (r .sample .0 + 1) (firstVote f + 2)) _ _ (λ _. decided-nears inner (majorityOf (r .first) (r .second) l)) (λ _. cast-nears inner))
+        pick-ind Nearer (eqb (r .sample .0 + 1) (firstVote f + 2)) _ _ (λ _. decided-nears inner _ (voteOf (r .first) (r .second) l .level)) (λ _. cast-nears inner))
         (λ e. next-nears (ltb-false (r .sample .0) (samples f - 1) e))
 
   sampler-nears : (p : Sampler) → ValidSampler f p → samplerRests p l ≡ false → samplerFar f l (samplerOf f p l .sampler) < samplerFar f l p

@@ -19,7 +19,7 @@ use Rattle.usart.specs.Baud.{ticks, leftOf, baudOf}
 use Rattle.usart.specs.Sender.{isVacant, isResting, bufferOf, acknowledgedOf, movedFrom, steppedOf, shiftedOn}
 use Rattle.usart.specs.Sender.{senderOf}
 use Rattle.usart.specs.Sampler.{isReceiving, samplerOf}
-use Rattle.usart.specs.Queue.{storedIn, takenFrom}
+use Rattle.usart.specs.Queue.{markedOf, storedIn, takenFrom}
 use Rattle.usart.specs.Receiver.{frameOf, putOf, listenedOf, stopped, enabledOf}
 use Rattle.usart.specs.Unit.{resetUsart, isBusy, clockOf, txcRequested}
 use Rattle.usart.specs.Settings.{settingsOf}
@@ -27,7 +27,7 @@ use Rattle.usart.specs.Read.{readOf}
 use Rattle.usart.specs.Write.{withSender, formattedOf, txcCleared, timedOf, transmittedOf, writeOf, vectorOf}
 use Rattle.usart.specs.Event.{settled}
 use Rattle.usart.specs.Valid.{ValidBaud, ValidBuffer, ValidTransmission, ValidShifter, ValidSender}
-use Rattle.usart.specs.Valid.{ValidSampler, ValidPlaces, ValidReceiver, isInShift, Valid}
+use Rattle.usart.specs.Valid.{ValidSampler, ValidFrame, ValidPlaces, ValidReceiver, isInShift, Valid}
 use Rattle.usart.specs.declared.baud.Clocks.{Clocks}
 use Rattle.usart.specs.declared.baud.Baud.{Baud}
 use Rattle.usart.specs.declared.sender.Buffer.{Buffer}
@@ -49,7 +49,7 @@ use Rattle.usart.specs.declared.unit.Usart.{Usart}
 use Rattle.usart.specs.declared.write.Register.{Register}
 use Rattle.usart.specs.declared.write.Written.{Written}
 use Rattle.usart.proofs.ReadLaws.{each-read}
-use Rattle.usart.proofs.SamplerLaws.{valid-sampler}
+use Rattle.usart.proofs.SamplerLaws.{ValidOutcome, valid-sampler}
 use Rattle.usart.proofs.WriteLaws.{Before, inA, inB, inC, Timing, inL, inH, Writes, each-write}
 
 valid-baud : (b : Baud) → ValidBaud b → ValidBaud (baudOf b)
@@ -90,20 +90,26 @@ module _ (f : Format) where
       let m : 2 ^ dataBits (f .size) ≤ 2 ^ 9 = pow-mono (data-bits-range (f .size) .1) in
       omega (arith, mod-lt x (pow-pos (dataBits (f .size))))
 
-  valid-stored : (p : Places) (lost : Bool) (x : Frame) → ValidPlaces p → x .«data» < 512 → ValidPlaces (storedIn p lost x .places)
-  valid-stored Empty lost x v h = h
-  valid-stored (One a) lost x v h = (v, h)
+  valid-marked : (x : Frame) (lost : Bool) → ValidFrame x → ValidFrame (markedOf x lost)
+  valid-marked x lost v = record { «data» = v .«data»; splits = v .splits }
+
+  valid-stored : (p : Places) (lost : Bool) (x : Frame) → ValidPlaces p → ValidFrame x → ValidPlaces (storedIn p lost x .places)
+  valid-stored Empty lost x v h = valid-marked x lost h
+  valid-stored (One a) lost x v h = (v, valid-marked x lost h)
   valid-stored (Two a b) lost x v h = v
 
-  valid-put : (q : Queue) (o : Outcome) → ValidPlaces (q .places) → ValidPlaces (putOf f q o .places)
-  valid-put q Nothing v = v
-  valid-put q (Complete word stop) v = valid-stored (q .places) (q .lost) (frameOf f word stop) v (data-lt word)
+  valid-put : (q : Queue) (o : Outcome) → ValidPlaces (q .places) → ValidOutcome o → ValidPlaces (putOf f q o .places)
+  valid-put q Nothing v w = v
+  valid-put q (Complete word stop splits) v w =
+      valid-stored (q .places) (q .lost) (frameOf f word stop splits) v (record { «data» = data-lt word; splits = w })
 
   pub valid-listened : (rxen : Bool) (r : Receiver) (rxd : Bool) → ValidReceiver f r → ValidReceiver f (listenedOf rxen f r rxd)
   unfolding listenedOf
   valid-listened rxen r rxd v =
       pick-ind (ValidReceiver f) rxen _ _
-      (λ e. record { sampler = valid-sampler f (r .sampler) rxd (v .sampler); places = valid-put (r .queue) (samplerOf f (r .sampler) rxd .outcome) (v .places) })
+      (λ e.
+      let s = valid-sampler f (r .sampler) rxd (v .sampler) in
+      record { sampler = s .sampler; places = valid-put (r .queue) (samplerOf f (r .sampler) rxd .outcome) (v .places) (s .outcome) })
       (λ e. v)
 
 pub valid-clock : (u : Usart) (rxd : Bool) → Valid u → Valid (clockOf u rxd)

@@ -8,7 +8,7 @@ use Rattle.frame.specs.Parity.{sumOfBits}
 use Rattle.frame.specs.Word.{frameBit, parityError}
 use Rattle.usart.specs.Baud.{leftOf}
 use Rattle.usart.specs.Sender.{steppedOf}
-use Rattle.usart.specs.Sampler.{idleOf, castOf, nextBitOf, shiftedOf, decidedOf, votedOf, sampledOf, samplerOf}
+use Rattle.usart.specs.Sampler.{idleOf, castOf, nextBitOf, shiftedOf, tallyOf, decidedOf, votedOf, sampledOf, samplerOf}
 use Rattle.usart.specs.Receiver.{listenedOf}
 use Rattle.usart.specs.Unit.{isBusy, clockOf}
 use Rattle.usart.specs.Settings.{sizeOf, parityOf}
@@ -21,7 +21,7 @@ use Rattle.usart.proofs.ClosedLists.{bool-eqb, shown, shown-shows, room
 use Rattle.usart.proofs.Examples.{listening, frames, level, run, received, loaded, clocks, handed}
 
 pub witness : Hears 813 100 frames listening received
-unfolding listening frames level run received shown free room bool-eqb lineLevel frameBit sumOfBits leftOf steppedOf idleOf castOf nextBitOf shiftedOf decidedOf votedOf sampledOf samplerOf listenedOf isBusy clockOf sizeOf parityOf formattedOf writeC isReservedC sizedC timedOf transmittedOf vectorOf parityError
+unfolding listening frames level run received shown free room bool-eqb lineLevel frameBit sumOfBits leftOf steppedOf idleOf castOf nextBitOf shiftedOf tallyOf decidedOf votedOf sampledOf samplerOf listenedOf isBusy clockOf sizeOf parityOf formattedOf writeC isReservedC sizedC timedOf transmittedOf vectorOf parityError
 witness = record {
   ready = record { enabled = refl; idle = refl; empty = refl; noLoss = refl; counter = lit≤ tt };
   onlyData = (λ _. refl, (λ _. refl, (clash refl, tt)));

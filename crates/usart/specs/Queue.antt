@@ -19,7 +19,7 @@ isEmpty (One a) = false
 isEmpty (Two a b) = false
 
 abbrev pub markedOf : Frame → Bool → Frame
-markedOf f d = record { «data» = f .«data»; fe = f .fe; upe = f .upe; dor = d }
+markedOf f d = record { «data» = f .«data»; fe = f .fe; upe = f .upe; dor = d; splits = f .splits }
 
 abbrev pub holding : Places → Queue
 holding p = record { places = p; lost = false }
@@ -44,7 +44,7 @@ withoutOldest q = record { places = takenFrom (q .places); lost = q .lost }
 
 -- empty: all read 0
 abbrev pub noFrame : Frame
-noFrame = record { «data» = 0; fe = false; upe = false; dor = false }
+noFrame = record { «data» = 0; fe = false; upe = false; dor = false; splits = 0 }
 
 -- FE, DOR, UPE and RXB8 are those of the oldest frame, the one the next UDR0 read takes away
 abbrev pub oldestOf : Places → Frame

@@ -1,4 +1,5 @@
--- What the serial registers read (document 01, 'Receiver'; bit places by source 004).
+-- What the serial registers read (document 01, 'Receiver'; bit places by source 004), and the split votes of the oldest
+-- frame (document 02, M-101).
 use Prim.Native.Nat.{ℕ, _+_, _*_, _/_, _%_}
 use mathlib.Core.Bool.{not}
 use Rattle.choice.specs.Bit.{isSet}
@@ -52,6 +53,10 @@ ubrr0h u = u .baud .ubrr / 256 % 256
 -- data bits 0 to 7 of the oldest frame; 0 where there is none
 abbrev pub udr0 : Usart → ℕ
 udr0 u = oldest u .«data» % 256
+
+-- M-101: 'the oldest's asked for by a call of its own (0 if empty ..)'
+abbrev pub splitVotes : Usart → ℕ
+splitVotes u = oldest u .splits
 
 abbrev pub poppedOf : Usart → Usart
 poppedOf u = record {

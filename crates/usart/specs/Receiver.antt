@@ -15,13 +15,15 @@ use Rattle.usart.specs.declared.queue.Places.the-variants.{Empty}
 use Rattle.usart.specs.declared.queue.Queue.{Queue}
 use Rattle.usart.specs.declared.receiver.Receiver.{Receiver}
 
--- each frame with its data, FE (stop voted low) and UPE (parity on and wrong)
-abbrev pub frameOf : Format → ℕ → Bool → Frame
-frameOf f word stop = record { «data» = dataOf f word; fe = not stop; upe = parityError f word; dor = false }
+-- each frame with its data, FE (stop voted low), UPE (parity on and wrong) and, by M-101, 'the count of split votes over
+-- start, data, parity and stop'
+abbrev pub frameOf : Format → ℕ → Bool → ℕ → Frame
+frameOf f word stop splits =
+    record { «data» = dataOf f word; fe = not stop; upe = parityError f word; dor = false; splits = splits }
 
 abbrev pub putOf : Format → Queue → Outcome → Queue
 putOf f q Nothing = q
-putOf f q (Complete word stop) = storedOf q (frameOf f word stop)
+putOf f q (Complete word stop splits) = storedOf q (frameOf f word stop splits)
 
 -- a tick
 abbrev pub receiverOf : Format → Receiver → Bool → Receiver

@@ -14,7 +14,7 @@ use Rattle.usart.specs.Baud.{ticks}
 use Rattle.usart.specs.Sampler.{samplerOf}
 use Rattle.usart.specs.Queue.{heldIn}
 use Rattle.usart.specs.Unit.{bitLength, clockOf}
-use Rattle.usart.specs.Read.{readOf}
+use Rattle.usart.specs.Read.{readOf, splitVotes}
 use Rattle.usart.specs.Event.{Event, clock, write, read, vector, nextOf, isUdr0, OnlyData, levelsOf}
 use Rattle.usart.specs.Line.{Sent, lineLevel, Fits, Spaced, EndedBy, Shows}
 use Rattle.usart.specs.declared.sampler.Sampler.the-variants.{Idle}
@@ -43,7 +43,7 @@ outcomeAt u rxd = pick (ticks (u .baud)) (pick (u .control .rxen) (samplerOf (u 
 
 abbrev pub isComplete : Outcome → Bool
 isComplete Nothing = false
-isComplete (Complete word stop) = true
+isComplete (Complete word stop splits) = true
 
 -- a place is free whenever a frame completes: fewer than two are held
 abbrev pub Free : Usart → List Event → Type 0
@@ -71,15 +71,16 @@ pub record Hears (P Q : ℕ) (fs : List Sent) (u : Usart) (es : List Event) : Ty
   pub line : LineOn P Q fs (u .format) (u .baud .ubrr) (levelsOf es)
   pub free : Free u es
 
--- a frame as the firmware sees it: UDR0, and RXB8, FE, DOR and UPE
+-- a frame as firmware and rig see it: UDR0, RXB8, FE, DOR and UPE, and its split votes
 pub record Seen : Type 0 where
   pub value : ℕ
   pub rxb8 : ℕ
   pub fe : ℕ
   pub dor : ℕ
   pub upe : ℕ
+  pub splits : ℕ
 
--- what a read of UDR0 answers, and what UCSR0B and UCSR0A read just before it
+-- what a read of UDR0 answers, and what UCSR0B and UCSR0A read, and the split votes are, just before it
 abbrev pub seenBy : Usart → Seen
 seenBy u = record {
   value = readOf u Udr0 .value;
@@ -87,6 +88,7 @@ seenBy u = record {
   fe = bitAt (readOf u Ucsr0a .value) 4;
   dor = bitAt (readOf u Ucsr0a .value) 3;
   upe = bitAt (readOf u Ucsr0a .value) 2;
+  splits = splitVotes u;
 }
 
 -- a UDR0 read with RXC set takes a frame
@@ -103,11 +105,19 @@ readsOf u (e ∷ es) = takenBy u e ++ readsOf (nextOf u e) es
 
 -- a frame still held has the same in it
 abbrev pub seenIn : Frame → Seen
-seenIn f = record { value = f .«data» % 256; rxb8 = bitAt (f .«data») 8; fe = digit (f .fe); dor = digit (f .dor); upe = digit (f .upe) }
+seenIn f = record {
+  value = f .«data» % 256;
+  rxb8 = bitAt (f .«data») 8;
+  fe = digit (f .fe);
+  dor = digit (f .dor);
+  upe = digit (f .upe);
+  splits = f .splits;
+}
 
--- data bits 0 to 7, the ninth, 0 where there is none, and FE, DOR and UPE clear
+-- data bits 0 to 7, the ninth, 0 where there is none, FE, DOR and UPE clear, and (M-101: 'that count is 0 for every
+-- frame') no vote split
 abbrev pub clean : Sent → Seen
-clean s = record { value = s .«data» % 256; rxb8 = bitAt (s .«data») 8; fe = 0; dor = 0; upe = 0 }
+clean s = record { value = s .«data» % 256; rxb8 = bitAt (s .«data») 8; fe = 0; dor = 0; upe = 0; splits = 0 }
 
 -- the clocks at which frames enter the buffer, in order, the first clock of the list being j
 abbrev pub entriesOf : ℕ → Usart → List Event → List ℕ

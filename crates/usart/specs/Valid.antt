@@ -9,7 +9,7 @@ use Rattle.frame.specs.Format.{samples, firstVote, dataBits, wordBits, lastBit}
 use Rattle.frame.specs.Word.{wordOf}
 use Rattle.frame.specs.declared.format.Format.{Format}
 use Rattle.usart.specs.Sender.{isResting}
-use Rattle.usart.specs.Sampler.{isReceiving}
+use Rattle.usart.specs.Sampler.{isReceiving, mostVotes}
 use Rattle.usart.specs.Receiver.{stopped}
 use Rattle.usart.specs.declared.baud.Baud.{Baud}
 use Rattle.usart.specs.declared.sender.Buffer.{Buffer}
@@ -21,6 +21,7 @@ use Rattle.usart.specs.declared.sender.Sender.{Sender}
 use Rattle.usart.specs.declared.sampler.Reception.{Reception}
 use Rattle.usart.specs.declared.sampler.Sampler.{Sampler}
 use Rattle.usart.specs.declared.sampler.Sampler.the-variants.{Idle, Receiving}
+use Rattle.usart.specs.declared.queue.Frame.{Frame}
 use Rattle.usart.specs.declared.queue.Places.{Places}
 use Rattle.usart.specs.declared.queue.Places.the-variants.{Empty, One, Two}
 use Rattle.usart.specs.declared.receiver.Receiver.{Receiver}
@@ -55,7 +56,8 @@ abbrev pub votedBits : Format → Reception → ℕ
 votedBits f r = pick (ltb (r .sample .0) (firstVote f + 2)) (r .bit) (r .bit + 1)
 
 -- bits 0 to D + 1, the first stop bit; the start bit has its first sample, and the stop bit not yet its last vote. Bits
--- that have not come in are 0, and so are votes that are not cast yet or are spent
+-- that have not come in are 0, and so are votes that are not cast yet or are spent. No more votes were split than bits
+-- are decided
 pub record ValidReception (f : Format) (r : Reception) : Type 0 where
   pub word : r .word < 2 ^ wordBits f
   pub bit : r .bit ≤ wordBits f + 1
@@ -65,15 +67,21 @@ pub record ValidReception (f : Format) (r : Reception) : Type 0 where
   pub rest : r .word % 2 ^ (wordBits f + 1 - votedBits f r) ≡ 0
   pub first : r .first ≡ true → (firstVote f ≤ r .sample .0) × (r .sample .0 < firstVote f + 2)
   pub second : r .second ≡ true → r .sample .0 ≡ firstVote f + 1
+  pub splits : r .splits ≤ votedBits f r
 
 abbrev pub ValidSampler : Format → Sampler → Type 0
 ValidSampler f (Idle last) = Unit {0}
 ValidSampler f (Receiving r) = ValidReception f r
 
+-- at most nine data bits and twelve votes
+pub record ValidFrame (x : Frame) : Type 0 where
+  pub «data» : x .«data» < 512
+  pub splits : x .splits ≤ mostVotes
+
 abbrev pub ValidPlaces : Places → Type 0
 ValidPlaces Empty = Unit {0}
-ValidPlaces (One a) = a .«data» < 512
-ValidPlaces (Two a b) = (a .«data» < 512) × (b .«data» < 512)
+ValidPlaces (One a) = ValidFrame a
+ValidPlaces (Two a b) = ValidFrame a × ValidFrame b
 
 pub record ValidReceiver (f : Format) (r : Receiver) : Type 0 where
   pub sampler : ValidSampler f (r .sampler)

@@ -138,6 +138,7 @@ impl Sampler {
                     first: r.first,
                     second: r.second,
                     word: r.word,
+                    splits: r.splits,
                 };
                 Sampler::Receiving(x)
             }

@@ -1,12 +1,13 @@
 ghost use mathlib.Core.Path.{_≡_};
 ghost use Rattle.usart.specs.Queue.{markedOf, holding, storedOf, withoutOldest, oldestOf, isEmpty};
 
-// A received frame.
+// A received frame, with how many of its votes were split.
 pub struct Frame {
     pub data: u16,
     pub fe: bool,
     pub upe: bool,
     pub dor: bool,
+    pub splits: u8,
 }
 
 // Frames received and not yet read, oldest first.
@@ -100,6 +101,7 @@ impl Queue {
                 fe: false,
                 upe: false,
                 dor: false,
+                splits: 0,
             },
             Places::One(a) => a,
             Places::Two(a, _) => a,

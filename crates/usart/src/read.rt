@@ -6,7 +6,7 @@ use crate::write::Register;
 use choice::digit;
 ghost use mathlib.Core.Path.{_≡_};
 ghost use Rattle.usart.specs.Unit.{resetUsart};
-ghost use Rattle.usart.specs.Read.{ucsr0a, ucsr0b, ucsr0c, ubrr0l, ubrr0h, udr0, poppedOf, readOf};
+ghost use Rattle.usart.specs.Read.{ucsr0a, ucsr0b, ucsr0c, ubrr0l, ubrr0h, udr0, splitVotes, poppedOf, readOf};
 
 // What a read answers, and the unit after it.
 pub struct Reading {
@@ -98,6 +98,14 @@ impl Usart {
     {
         let f = self.receiver.queue.oldest();
         (f.data % 256) as u8
+    }
+
+    // The split votes of the frame that the next read of UDR0 takes away.
+    pub fn split_votes(self) -> u8
+        ensures { λ r. ⌜ r ≡ splitVotes self ⌝ }
+    {
+        let f = self.receiver.queue.oldest();
+        f.splits
     }
 
     fn popped(mut self) -> Usart

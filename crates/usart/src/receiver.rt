@@ -12,15 +12,16 @@ pub struct Receiver {
     pub queue: Queue,
 }
 
-// The frame of a word and its stop vote, with no mark of a loss.
-fn received(f: Format, word: u16, stop: bool) -> Frame
-    ensures { λ r. ⌜ r ≡ frameOf f word stop ⌝ }
+// The frame of a word, its stop vote and its split votes, with no mark of a loss.
+fn received(f: Format, word: u16, stop: bool, splits: u8) -> Frame
+    ensures { λ r. ⌜ r ≡ frameOf f word stop splits ⌝ }
 {
     Frame {
         data: f.masked(word),
         fe: !stop,
         upe: f.parity_error(word),
         dor: false,
+        splits,
     }
 }
 
@@ -29,7 +30,7 @@ fn put(q: Queue, f: Format, o: Outcome) -> Queue
 {
     match o {
         Outcome::Nothing => q,
-        Outcome::Complete(word, stop) => q.stored(received(f, word, stop)),
+        Outcome::Complete(word, stop, splits) => q.stored(received(f, word, stop, splits)),
     }
 }
 

@@ -1,17 +1,21 @@
 use crate::sample::Sample;
 use frame::Format;
 ghost use mathlib.Core.Path.{_≡_};
-ghost use Rattle.usart.specs.Sampler.{idleOf, castOf, nextBitOf, shiftedOf, decidedOf, votedOf, sampledOf};
-ghost use Rattle.usart.specs.Sampler.{samplerOf, isReceiving};
+ghost use Rattle.usart.specs.Sampler.{idleOf, castOf, nextBitOf, shiftedOf, tallyOf, decidedOf, votedOf};
+ghost use Rattle.usart.specs.Sampler.{sampledOf, samplerOf, isReceiving};
+
+// The votes of the longest frame: start bit, nine data bits, parity bit and first stop bit.
+const MOST_VOTES: u8 = 12;
 
 // A frame under way: the bit that is being sampled (0 is the start bit), samples of it taken, its first two votes until
-// the third decides it, and the bits received so far, shifted in at the top.
+// the third decides it, the bits received so far, shifted in at the top, and the votes so far that were split.
 pub struct Reception {
     pub bit: u8,
     pub sample: Sample,
     pub first: bool,
     pub second: bool,
     pub word: u16,
+    pub splits: u8,
 }
 
 pub enum Sampler {
@@ -24,8 +28,8 @@ pub enum Sampler {
 // What a sample leads to.
 pub enum Outcome {
     Nothing,
-    // A frame completes, with its word and the vote on its stop bit.
-    Complete(u16, bool),
+    // A frame completes, with its word, the vote on its stop bit and how many of its votes were split.
+    Complete(u16, bool, u8),
 }
 
 pub struct Sampled {
@@ -49,6 +53,7 @@ fn idle(last: bool, rxd: bool) -> Sampled
             first: false,
             second: false,
             word: 0,
+            splits: 0,
         };
         return Sampled {
             sampler: Sampler::Receiving(r),
@@ -59,6 +64,19 @@ fn idle(last: bool, rxd: bool) -> Sampled
         sampler: Sampler::Idle(rxd),
         outcome: Outcome::Nothing,
     }
+}
+
+// One more vote: a split one is counted. (No frame has more than are counted: `SamplerLaws.antt`, `below-most`.)
+fn tally(splits: u8, unanimous: bool) -> u8
+    ensures { λ r. ⌜ r ≡ tallyOf splits unanimous ⌝ }
+{
+    if unanimous {
+        return splits;
+    }
+    if splits < MOST_VOTES {
+        return splits + 1;
+    }
+    splits
 }
 
 impl Reception {
@@ -90,6 +108,7 @@ impl Reception {
                 first: false,
                 second: false,
                 word: self.word,
+                splits: self.splits,
             };
         }
         self
@@ -134,20 +153,23 @@ impl Reception {
         }
         Sampled {
             sampler: rest,
-            outcome: Outcome::Complete(self.word, level),
+            outcome: Outcome::Complete(self.word, level, self.splits),
         }
     }
 
-    // Sample n of the bit, which is not its last. At the last vote the two that were kept are spent.
+    // Sample n of the bit, which is not its last. At the last vote the two that were kept are spent, and a split vote is
+    // counted.
     fn voted(mut self, f: Format, n: Sample, rxd: bool) -> Sampled
         ensures { λ r. ⌜ r ≡ votedOf f self n rxd ⌝ }
     {
         if n.0 == f.first_vote() + 2 {
-            let level = frame::majority(self.first, self.second, rxd);
+            let vote = frame::majority(self.first, self.second, rxd);
+            let splits = tally(self.splits, vote.unanimous);
             self.sample = n;
             self.first = false;
             self.second = false;
-            return self.decided(f, rxd, level);
+            self.splits = splits;
+            return self.decided(f, rxd, vote.level);
         }
         let r = self.cast(f, n, rxd);
         Sampled {

@@ -9,7 +9,7 @@ use Rattle.answer.specs.Number.{numberOf}
 use Rattle.device.specs.Outcome.{answerOf, readAnswerOf, valueOf}
 use Rattle.device.specs.Register.{writeOf, readOf, vectorOf}
 use Rattle.device.specs.Run.{ranOf, outputsOf, areLevels, runOf, shown}
-use Rattle.device.specs.Unit.{resetDevice, clockOf, outputOf, clockedOf, requestsOf}
+use Rattle.device.specs.Unit.{resetDevice, clockOf, outputOf, clockedOf}
 use Rattle.device.proofs.CountingLaws.{counted-clock, counted-output}
 use Rattle.answer.specs.declared.Refusal.the-variants.{Record}
 use Rattle.device.specs.declared.outcome.Written.{Written}
@@ -28,11 +28,11 @@ use Rattle.record.specs.Report.{reportOf}
 use Rattle.record.specs.declared.in_place.Stepped.{Stepped}
 use Rattle.record.specs.declared.in_place.Stepped.the-variants.{Refused as Uncounted, Counted, Due}
 use Rattle.record.specs.declared.report.Reported.{Reported}
-use Rattle.record.specs.declared.report.Reported.the-variants.{Refused as NoReport, Bits}
+use Rattle.record.specs.declared.report.Reported.the-variants.{Refused as NoReport, Value}
 use Rattle.record.proofs.Round.{decode-length, stored}
 use Rattle.record.proofs.KeptLaws.{put-back, put-back-read}
-use Rattle.record.proofs.StepLaws.{counted-from, due-from, refused-from, bits-from, unreported-from}
-use Rattle.warpmagpie.specs.Calls.{resetOn, resetAnswer, recordAfterReset, writeOn, writeAnswer, recordAfterWrite, readOn, readAnswer, readValue, recordAfterRead, vectorOn, vectorAnswer, recordAfterVector, runOn, outputsOn, runAnswer, recordAfterRun, outputsAfterRun, requestsAnswerOn, requestsValueOn, requestsAnswer, requestsValue}
+use Rattle.record.proofs.StepLaws.{counted-from, due-from, refused-from, value-from, unreported-from}
+use Rattle.warpmagpie.specs.Calls.{resetOn, resetAnswer, recordAfterReset, writeOn, writeAnswer, recordAfterWrite, readOn, readAnswer, readValue, recordAfterRead, vectorOn, vectorAnswer, recordAfterVector, runOn, outputsOn, runAnswer, recordAfterRun, outputsAfterRun, queryAnswerOn, queryValueOn}
 
 -- what a run answers and leaves
 abbrev pub RunIs : List ℕ → List ℕ → List ℕ → ℕ → List ℕ → List ℕ → Type 0
@@ -78,9 +78,9 @@ module _ (s : List ℕ) {t : Decoded} {d : Device} (p : t ≡ decodeOf s) (q : t
       let e : g ≡ readOn (decodeOf s) a = hg ∙ read-on a in
       (hn ∙ ap readAnswerOf e, (hv ∙ ap valueOf e, hs ∙ put-back-read s g has-length ∙ ap (keptByRead s) e))
 
-  pub requests-done : {v : ℕ} → v ≡ requestsOf d → (0 ≡ requestsAnswer s) × (v ≡ requestsValue s)
-  unfolding requestsAnswerOn requestsValueOn
-  requests-done h = (sym (ap requestsAnswerOn accepted), h ∙ sym (ap requestsValueOn accepted))
+  query-done : (asked : Device → ℕ) {v : ℕ} → v ≡ asked d → (0 ≡ queryAnswerOn (decodeOf s)) × (v ≡ queryValueOn asked (decodeOf s))
+  unfolding queryAnswerOn queryValueOn
+  query-done asked h = (sym (ap queryAnswerOn accepted), h ∙ sym (ap (queryValueOn asked) accepted))
 
 -- the record that a call took is refused
 module _ (s : List ℕ) {t : Decoded} (p : t ≡ decodeOf s) (q : t ≡ NoDevice) {n : ℕ} (r : n ≡ numberOf Record) where
@@ -99,9 +99,9 @@ module _ (s : List ℕ) {t : Decoded} (p : t ≡ decodeOf s) (q : t ≡ NoDevice
   unfolding readOn
   read-refused a = rw none (r, (refl, refl))
 
-  pub requests-refused : (n ≡ requestsAnswer s) × (0 ≡ requestsValue s)
-  unfolding requestsAnswerOn requestsValueOn
-  requests-refused = rw none (r, refl)
+  query-refused : (asked : Device → ℕ) → (n ≡ queryAnswerOn (decodeOf s)) × (0 ≡ queryValueOn asked (decodeOf s))
+  unfolding queryAnswerOn queryValueOn
+  query-refused asked = rw none (r, refl)
 
   pub run-refused : (ls os : List ℕ) → RunIs s ls os n s os
   unfolding runOn outputsOn
@@ -169,10 +169,10 @@ single (l ∷ (m ∷ ls)) h = absurd (omega (arith, h))
 pub run-single : (s ls os : List ℕ) {n : ℕ} {s' os' : List ℕ} → length ls ≡ 1 → RunIs s (getD ls 0 0 ∷ []) os n s' os' → RunIs s ls os n s' os'
 run-single s ls os {n} {s'} {os'} h q = subst (λ (x : List ℕ). RunIs s x os n s' os') (single ls h) q
 
--- a report, by what `requests` came to
-module _ (s : List ℕ) {r : Reported} (p : r ≡ reportOf s) where
-  pub report-done : {b : ℕ} → r ≡ Bits b → (0 ≡ requestsAnswer s) × (b ≡ requestsValue s)
-  report-done q = let f = bits-from s p q in requests-done s refl (f .0) (f .1)
+-- a query, by what the record's bytes came to
+module _ (asked : Device → ℕ) (s : List ℕ) {r : Reported} (p : r ≡ reportOf asked s) where
+  pub report-done : {v : ℕ} → r ≡ Value v → (0 ≡ queryAnswerOn (decodeOf s)) × (v ≡ queryValueOn asked (decodeOf s))
+  report-done q = let f = value-from asked s p q in query-done s refl (f .0) asked (f .1)
 
-  pub report-refused : {n : ℕ} → r ≡ NoReport → n ≡ numberOf Record → (n ≡ requestsAnswer s) × (0 ≡ requestsValue s)
-  report-refused q hn = requests-refused s refl (unreported-from s p q) hn
+  pub report-refused : {n : ℕ} → r ≡ NoReport → n ≡ numberOf Record → (n ≡ queryAnswerOn (decodeOf s)) × (0 ≡ queryValueOn asked (decodeOf s))
+  report-refused q hn = query-refused s refl (unreported-from asked s p q) hn asked

@@ -6,10 +6,11 @@ use lib.ListN.{length}
 use Rattle.choice.specs.Pick.{pick}
 use Rattle.answer.specs.Number.{numberOf}
 use Rattle.device.specs.Outcome.{answerOf, readAnswerOf, valueOf}
-use Rattle.device.specs.Unit.{resetDevice, requestsOf}
+use Rattle.device.specs.Unit.{resetDevice, requestsOf, splitVotes}
 use Rattle.device.specs.Register.{writeOf, readOf, vectorOf}
 use Rattle.device.specs.Run.{outputsOf, runOf, shown}
 use Rattle.answer.specs.declared.Refusal.the-variants.{Record}
+use Rattle.device.specs.declared.unit.Device.{Device}
 use Rattle.device.specs.declared.outcome.Written.{Written}
 use Rattle.device.specs.declared.outcome.Written.the-variants.{Done, Refused}
 use Rattle.device.specs.declared.outcome.Reading.{Reading}
@@ -84,17 +85,25 @@ recordAfterRun s ls os = kept s (runOn (decodeOf s) ls os)
 abbrev pub outputsAfterRun : List ℕ → List ℕ → List ℕ → List ℕ
 outputsAfterRun s ls os = shown os (outputsOn (decodeOf s) ls) (runOn (decodeOf s) ls os)
 
--- a report of the requests: a refused one answers 0
-unfoldable pub requestsAnswerOn : Decoded → ℕ
-requestsAnswerOn (Accepted d) = 0
-requestsAnswerOn NoDevice = numberOf Record
+-- a query: something is asked of the device, and the record stays as it is; a refused one answers 0
+unfoldable pub queryAnswerOn : Decoded → ℕ
+queryAnswerOn (Accepted d) = 0
+queryAnswerOn NoDevice = numberOf Record
 
+unfoldable pub queryValueOn : (Device → ℕ) → Decoded → ℕ
+queryValueOn asked (Accepted d) = asked d
+queryValueOn asked NoDevice = 0
+
+-- the report of the requests
 abbrev pub requestsAnswer : List ℕ → ℕ
-requestsAnswer s = requestsAnswerOn (decodeOf s)
-
-unfoldable pub requestsValueOn : Decoded → ℕ
-requestsValueOn (Accepted d) = requestsOf d
-requestsValueOn NoDevice = 0
+requestsAnswer s = queryAnswerOn (decodeOf s)
 
 abbrev pub requestsValue : List ℕ → ℕ
-requestsValue s = requestsValueOn (decodeOf s)
+requestsValue s = queryValueOn requestsOf (decodeOf s)
+
+-- M-101: 'the oldest's asked for by a call of its own (0 if empty, refusal 5 only)'
+abbrev pub splitVotesAnswer : List ℕ → ℕ
+splitVotesAnswer s = queryAnswerOn (decodeOf s)
+
+abbrev pub splitVotesValue : List ℕ → ℕ
+splitVotesValue s = queryValueOn splitVotes (decodeOf s)

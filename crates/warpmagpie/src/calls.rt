@@ -9,7 +9,8 @@ ghost use Prim.Native.Nat.{_<_};
 ghost use lib.ListN.{length};
 ghost use Rattle.answer.specs.Number.{numberOf};
 ghost use Rattle.answer.specs.declared.Refusal.the-variants.{Record};
-ghost use Rattle.warpmagpie.specs.Calls.{resetAnswer, recordAfterReset, writeAnswer, recordAfterWrite, readAnswer, readValue, recordAfterRead, vectorAnswer, recordAfterVector, runAnswer, recordAfterRun, outputsAfterRun, requestsAnswer, requestsValue};
+ghost use Rattle.warpmagpie.specs.Calls.{resetAnswer, recordAfterReset, writeAnswer, recordAfterWrite, readAnswer, readValue, recordAfterRead, vectorAnswer, recordAfterVector, runAnswer, recordAfterRun, outputsAfterRun};
+ghost use Rattle.warpmagpie.specs.Calls.{requestsAnswer, requestsValue, splitVotesAnswer, splitVotesValue};
 
 fn no_record() -> u8
     ensures { λ r. ⌜ r ≡ numberOf Record ⌝ }
@@ -132,12 +133,30 @@ pub extern "C" fn warpmagpie_requests(image: &[u8], requests: &mut u8) -> u8
 {
     let got = record::requests(image);
     match got {
-        Reported::Bits(bits) => {
+        Reported::Value(bits) => {
             *requests = bits;
             0
         }
         Reported::Refused => {
             *requests = 0;
+            no_record()
+        }
+    }
+}
+
+#[no_mangle]
+pub extern "C" fn warpmagpie_split_votes(image: &[u8], count: &mut u8) -> u8
+    ensures { λ r. ⌜ r ≡ splitVotesAnswer (now (image .entry)) ⌝ }
+    ensures { λ _. ⌜ now (count .exit) ≡ splitVotesValue (now (image .entry)) ⌝ }
+{
+    let got = record::split_votes(image);
+    match got {
+        Reported::Value(splits) => {
+            *count = splits;
+            0
+        }
+        Reported::Refused => {
+            *count = 0;
             no_record()
         }
     }

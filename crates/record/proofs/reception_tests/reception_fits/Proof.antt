@@ -22,7 +22,11 @@ returns-4 c = holds _ _ (c .before .before .before .before .before .before .befo
 
 returns-5 : tie.Need-returns-5
 unfolding receptionFits
-returns-5 c = holds _ _ (c .before .before .before .before .before .before .before .before .reception-within .ensures) (c .before .before .before .before .before .before .before .if1 .left) (holds _ _ (c .before .before .before .before .before .before .undecided .ensures) (c .before .before .before .before .before .if2 .left) (holds _ _ (c .before .before .before .before .first-fits .ensures) (c .before .before .before .if3 .left) (holds _ _ (c .before .before .second-fits .ensures) (c .before .if4 .left) (c .rest-fits .ensures))))
+returns-5 c = holds _ _ (c .before .before .before .before .before .before .before .before .before .reception-within .ensures) (c .before .before .before .before .before .before .before .before .if1 .left) (holds _ _ (c .before .before .before .before .before .before .before .undecided .ensures) (c .before .before .before .before .before .before .if2 .left) (holds _ _ (c .before .before .before .before .before .first-fits .ensures) (c .before .before .before .before .if3 .left) (holds _ _ (c .before .before .before .second-fits .ensures) (c .before .before .if4 .left) (fails _ _ (c .before .splits-fit .ensures) (c .if5 .taken)))))
+
+returns-6 : tie.Need-returns-6
+unfolding receptionFits
+returns-6 c = holds _ _ (c .before .before .before .before .before .before .before .before .before .before .reception-within .ensures) (c .before .before .before .before .before .before .before .before .before .if1 .left) (holds _ _ (c .before .before .before .before .before .before .before .before .undecided .ensures) (c .before .before .before .before .before .before .before .if2 .left) (holds _ _ (c .before .before .before .before .before .before .first-fits .ensures) (c .before .before .before .before .before .if3 .left) (holds _ _ (c .before .before .before .before .second-fits .ensures) (c .before .before .before .if4 .left) (holds _ _ (c .before .before .splits-fit .ensures) (c .before .if5 .left) (c .rest-fits .ensures)))))
 
 pub reception-fits-spec : {M : Type 1} → statement M
-reception-fits-spec = tie.close (tie.spec (λ c κs. search needs) returns (λ c κs. search needs) returns-2 (λ c κs. search needs) returns-3 (λ c κs. search needs) returns-4 (λ c κs. search needs) returns-5)
+reception-fits-spec = tie.close (tie.spec (λ c κs. search needs) returns (λ c κs. search needs) returns-2 (λ c κs. search needs) returns-3 (λ c κs. search needs) returns-4 (λ c κs. search needs) returns-5 (λ c κs. search needs) returns-6)
