@@ -24,7 +24,7 @@ enum {
     LONG = 100000000
 };
 
-enum kind { RUN, HOLD, REPORT, PLAN, CHECK };
+enum kind { RUN, HOLD, REPORT, SPLIT_VOTES, PLAN, CHECK };
 
 /* A round is so many calls on a device that is as it was before, or on a clock and a rate. The device has passed
    `after` clocks of the line by then; `sets` is a bit of UCSR0A that is clear before a round and set after it. */
@@ -40,6 +40,7 @@ struct row {
 
 static const struct row ROWS[] = {
     {.name = "report, idle, UBRR 51", .kind = REPORT, .ubrr = SLOW, .calls = SLOW + 1},
+    {.name = "split votes, idle, UBRR 51", .kind = SPLIT_VOTES, .ubrr = SLOW, .calls = SLOW + 1},
     {.name = "run of one clock, idle, UBRR 51", .ubrr = SLOW, .calls = SLOW + 1},
     {.name = "run of one clock, idle, UBRR 0", .ubrr = 0, .calls = TICKS},
     {.name = "run of one clock, full duplex, UBRR 0", .ubrr = 0, .traffic = true, .calls = FRAME_CLOCKS},
@@ -102,6 +103,7 @@ static uint8_t call(const struct row *row, uint8_t *record, uint8_t level)
     case RUN: return run(record, level);
     case HOLD: return warpmagpie_hold(record, LEN, IDLE, LONG, &byte);
     case REPORT: return warpmagpie_requests(record, LEN, &byte);
+    case SPLIT_VOTES: return warpmagpie_split_votes(record, LEN, &byte);
     case PLAN: return warpmagpie_plan_baud(row->clock, row->rate, 0, &ubrr, &tenths);
     default: return warpmagpie_check_baud(row->clock, row->rate, 0, row->ubrr, &byte);
     }

@@ -31,14 +31,15 @@ static bool frame_comes(struct circuit *circuit)
     return true;
 }
 
-/* Reads the next frame. The flags are read first: they belong to the frame that the next read of UDR0 takes away
-   (document 01). False when none comes. */
+/* Reads the next frame. The flags and the split votes come first: they belong to the frame that the next read of UDR0
+   takes away (document 01; document 02, M-101). False when none comes. */
 static bool next_frame(struct circuit *circuit, struct report *report)
 {
     struct node *chime = &circuit->chime;
     if (!frame_comes(circuit))
         return false;
     uint8_t flags = node_read(chime, WARPMAGPIE_UCSR0A);
+    report->split_votes += node_split_votes(chime);
     uint8_t value = node_read(chime, WARPMAGPIE_UDR0);
     log_call(&circuit->log, chime, "read", WARPMAGPIE_UDR0, value, flags);
     if (report->count == CHIME_FRAMES_MAX)

@@ -21,6 +21,7 @@ struct report {
     size_t count;
     uint8_t errors;                    /* FE, DOR, UPE of the first frame that had any; 0 if none had */
     size_t errors_at;                  /* its place in frames */
+    unsigned split_votes;              /* of all frames read */
     size_t length;                     /* of the payload, as the header says; 0 without a good header */
     size_t written;                    /* payload bytes given to the flash */
     uint8_t stored[CHIME_PAYLOAD_MAX]; /* the payload read back from the flash, if the image was whole */

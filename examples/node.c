@@ -73,6 +73,13 @@ uint8_t node_requests(struct node *node)
     return requests;
 }
 
+uint8_t node_split_votes(struct node *node)
+{
+    uint8_t count = 0;
+    check(node, "split votes", "", warpmagpie_split_votes(node->record, sizeof node->record, &count));
+    return count;
+}
+
 void node_take_vector(struct node *node, uint8_t vector)
 {
     const char *name = vector == WARPMAGPIE_VECTOR_TXC ? "TXC" : vector == WARPMAGPIE_VECTOR_SPIF ? "SPIF" : "?";

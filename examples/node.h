@@ -23,6 +23,7 @@ void node_start(struct node *node, const char *name, uint64_t hertz);
 void node_write(struct node *node, uint16_t address, uint8_t value);
 uint8_t node_read(struct node *node, uint16_t address);
 uint8_t node_requests(struct node *node);
+uint8_t node_split_votes(struct node *node);
 void node_take_vector(struct node *node, uint8_t vector);
 
 /* Passes one clock with these pin levels; node->output is what the pins carry after it. */

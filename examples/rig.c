@@ -40,13 +40,14 @@ static void run(struct circuit *circuit, struct transfer *transfer, const char *
     log_gap(&circuit->log);
 }
 
-/* The image that was sent is in the chime's flash. */
+/* The image that was sent is in the chime's flash. No vote was split: the wires are clean, and the crystals within the
+   recommended rate error. */
 static bool came_whole(const struct transfer *transfer)
 {
     const struct report *report = &transfer->report;
     return report->accepted && report->count == IMAGE_LEN && memcmp(report->frames, transfer->image.bytes, IMAGE_LEN) == 0 &&
            memcmp(report->stored, transfer->image.bytes + IMAGE_HEADER_LEN, IMAGE_PAYLOAD_LEN) == 0 &&
-           transfer->reply == REPLY_ACCEPTED;
+           report->split_votes == 0 && transfer->reply == REPLY_ACCEPTED;
 }
 
 static size_t frames_lost(const struct transfer *transfer)
@@ -61,8 +62,8 @@ static bool was_overrun(const struct transfer *transfer)
     const struct report *report = &transfer->report;
     const uint8_t *sent = transfer->image.bytes;
     size_t lost = frames_lost(transfer), at = report->errors_at;
-    return lost > 0 && report->errors == WARPMAGPIE_DOR && memcmp(report->frames, sent, at) == 0 &&
-           memcmp(report->frames + at, sent + at + lost, report->count - at) == 0;
+    return lost > 0 && report->errors == WARPMAGPIE_DOR && report->split_votes == 0 &&
+           memcmp(report->frames, sent, at) == 0 && memcmp(report->frames + at, sent + at + lost, report->count - at) == 0;
 }
 
 static bool was_refused(const struct transfer *transfer)
@@ -88,8 +89,8 @@ static void print_summary(int number, const struct transfer *transfer)
         printf("DOR at frame %zu, %zu frame%s lost before it (%d sent, %zu read): %s\n", report->errors_at + 1, frames_lost(transfer),
                frames_lost(transfer) == 1 ? "" : "s", IMAGE_LEN, report->count, verdict);
     else
-        printf("%zu of %d bytes, checksum %s: %s\n", report->written, IMAGE_PAYLOAD_LEN,
-               report->checksum_right ? "right" : "wrong", verdict);
+        printf("%zu of %d bytes, %u split votes, checksum %s: %s\n", report->written, IMAGE_PAYLOAD_LEN,
+               report->split_votes, report->checksum_right ? "right" : "wrong", verdict);
 }
 
 static void print_trace(const struct recorder *recorder)

@@ -180,8 +180,8 @@ uint8_t warpmagpie_requests(const uint8_t *record, size_t record_len, uint8_t *r
 
 /* Puts into *count the split votes of the oldest frame held, the one that the next read of UDR0 takes away: at how many
    of its bits, start bit, data, parity and first stop bit, the three voting samples were not all alike. 0 to 12, and 0
-   if no frame is held. As with FE, DOR and UPE, ask before UDR0 is read. Answers 0 or 5; *count is 0 on a refusal. The
-   record is not changed. */
+   if no frame is held. As with FE, DOR and UPE, ask before UDR0 is read. Bits that an archive before version 2.5.0
+   received count as not split. Answers 0 or 5; *count is 0 on a refusal. The record is not changed. */
 uint8_t warpmagpie_split_votes(const uint8_t *record, size_t record_len, uint8_t *count);
 
 /* Replays a bench trace: makes the record that of a device after reset, whatever its bytes were, and then each call of

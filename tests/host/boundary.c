@@ -29,8 +29,8 @@ enum {
 };
 
 /* Bytes of the record that are unused, or wait for a request (docs/RECORD.md). */
-static const size_t UNUSED[] = {7,  24, 26, 30, 33, 34, 35, 36, 37, 38, 39,
-                                40, 41, 42, 43, 44, 45, 46, 47, 60, 61, 62};
+static const size_t UNUSED[] = {7,  26, 34, 35, 36, 37, 38, 39, 40, 41,
+                                42, 43, 44, 45, 46, 47, 60, 61, 62};
 
 static const uint16_t REGISTERS[] = {WARPMAGPIE_UCSR0A, WARPMAGPIE_UCSR0B, WARPMAGPIE_UCSR0C, WARPMAGPIE_UBRR0L, WARPMAGPIE_UBRR0H,
                                      WARPMAGPIE_UDR0, WARPMAGPIE_SPCR, WARPMAGPIE_SPSR, WARPMAGPIE_SPDR, WARPMAGPIE_DDRB};
@@ -126,15 +126,16 @@ static void holds(const char *what, size_t place, const struct piece *piece, con
 
 /* ---- the calls ---- */
 
-enum call { RESET, WRITE, READ, VECTOR, RUN, HOLD, REQUESTS, CALLS };
+enum call { RESET, WRITE, READ, VECTOR, RUN, HOLD, REQUESTS, SPLIT_VOTES, CALLS };
 
-static const char *const CALL_NAMES[CALLS] = {"reset", "write", "read", "vector", "run", "hold", "requests"};
+static const char *const CALL_NAMES[CALLS] = {"reset", "write", "read",     "vector",
+                                              "run",   "hold",  "requests", "split votes"};
 
 struct arguments {
     uint16_t address;
     uint8_t value, vector, level;
     uint32_t clocks;
-    struct piece levels, outputs, result; /* result: one byte, for read, hold and requests */
+    struct piece levels, outputs, result; /* result: one byte, for read, hold, requests and split votes */
 };
 
 static uint8_t call(enum call which, struct piece *record, struct arguments *with)
@@ -148,7 +149,8 @@ static uint8_t call(enum call which, struct piece *record, struct arguments *wit
     case VECTOR: return warpmagpie_take_vector(bytes, len, with->vector);
     case RUN: return warpmagpie_run(bytes, len, with->levels.bytes, with->levels.len, with->outputs.bytes, with->outputs.len);
     case HOLD: return warpmagpie_hold(bytes, len, with->level, with->clocks, with->result.bytes);
-    default: return warpmagpie_requests(bytes, len, with->result.bytes);
+    case REQUESTS: return warpmagpie_requests(bytes, len, with->result.bytes);
+    default: return warpmagpie_split_votes(bytes, len, with->result.bytes);
     }
 }
 
@@ -174,7 +176,8 @@ static void drop_arguments(struct arguments *with)
     drop(&with->result);
 }
 
-/* A device that has sent a byte and done an SPI transfer, both interrupts enabled: TXC and SPIF are requested. */
+/* A device that has sent a byte and done an SPI transfer, both interrupts enabled: TXC and SPIF are requested. It holds
+   a frame, of 0xFF, one of whose start bit's three votes was high. */
 static void sample(uint8_t record[WARPMAGPIE_RECORD_LEN])
 {
     static const struct {
@@ -187,14 +190,19 @@ static void sample(uint8_t record[WARPMAGPIE_RECORD_LEN])
         {WARPMAGPIE_UDR0, 0x55},
         {WARPMAGPIE_SPDR, 0xAA},
     };
-    uint8_t levels[200], outputs[sizeof levels], requests;
+    enum { START = 20, BIT = 16, VOTE = 7 }; /* sample 8, the first voting one */
+    uint8_t levels[200], outputs[sizeof levels], requests, count;
     memset(levels, WARPMAGPIE_LEVEL_RXD | WARPMAGPIE_LEVEL_SS, sizeof levels);
+    memset(levels + START, WARPMAGPIE_LEVEL_SS, BIT);
+    levels[START + VOTE] |= WARPMAGPIE_LEVEL_RXD;
     expect("reset", 0, warpmagpie_reset(record, WARPMAGPIE_RECORD_LEN), WARPMAGPIE_DONE);
     for (size_t i = 0; i < COUNT(WRITES); i++)
         expect("write", i, warpmagpie_write(record, WARPMAGPIE_RECORD_LEN, WRITES[i].address, WRITES[i].value), WARPMAGPIE_DONE);
     expect("run", 0, warpmagpie_run(record, WARPMAGPIE_RECORD_LEN, levels, sizeof levels, outputs, sizeof outputs), WARPMAGPIE_DONE);
     expect("requests", 0, warpmagpie_requests(record, WARPMAGPIE_RECORD_LEN, &requests), WARPMAGPIE_DONE);
     expect("requests of the sample", 0, requests, WARPMAGPIE_REQUEST_TXC | WARPMAGPIE_REQUEST_SPIF);
+    expect("split votes", 0, warpmagpie_split_votes(record, WARPMAGPIE_RECORD_LEN, &count), WARPMAGPIE_DONE);
+    expect("split votes of the sample", 0, count, 1);
 }
 
 static uint64_t next_random(uint64_t *state)
@@ -207,11 +215,11 @@ static uint64_t next_random(uint64_t *state)
 
 /* ---- records ---- */
 
-/* Refused with 5: nothing touched; the result of a read, a hold or of requests is 0, and no other call writes there. */
+/* Refused with 5: nothing touched; the result of a read, a hold or a query is 0, and no other call writes there. */
 static void refuses_record(enum call which, struct piece *record, bool right, size_t place)
 {
     struct arguments with = arguments(right, record->guard);
-    bool answers = which == READ || which == HOLD || which == REQUESTS;
+    bool answers = which == READ || which == HOLD || which == REQUESTS || which == SPLIT_VOTES;
     uint8_t wanted = answers ? 0 : GUARD;
     expect(CALL_NAMES[which], place, call(which, record, &with), WARPMAGPIE_REFUSED_RECORD);
     untouched("record of a refused call", place, record);
@@ -229,10 +237,14 @@ static void accepts_record(enum call which, struct piece *record, size_t place)
     holds("outputs", place, &with.outputs, with.outputs.bytes);
     untouched("levels", place, &with.levels);
     if (which == READ)
-        expect("UCSR0A", place, with.result.bytes[0], WARPMAGPIE_TXC | WARPMAGPIE_UDRE);
+        expect("UCSR0A", place, with.result.bytes[0], WARPMAGPIE_RXC | WARPMAGPIE_TXC | WARPMAGPIE_UDRE);
     if (which == REQUESTS) {
         expect("requests", place, with.result.bytes[0], WARPMAGPIE_REQUEST_TXC | WARPMAGPIE_REQUEST_SPIF);
         untouched("record after requests", place, record);
+    }
+    if (which == SPLIT_VOTES) {
+        expect("split votes", place, with.result.bytes[0], 1);
+        untouched("record after the call for split votes", place, record);
     }
     drop_arguments(&with);
 }

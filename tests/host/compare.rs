@@ -1,6 +1,7 @@
 //! Compares the archive `libwarpmagpie.a` with the model in model/: random histories, random devices, damaged records,
-//! lines at the limits of the rate error, devices joined by wires, records that break one rule, and long holds. Then
-//! holds that are wrong on purpose take the place of the archive's, and each has to be seen.
+//! lines at the limits of the rate error, devices joined by wires, records that break one rule, long holds, and lines
+//! with noise. Then holds and counts of split votes that are wrong on purpose take the place of the archive's, and each
+//! has to be seen.
 //!
 //! compare [--seed N] [--scale K]
 
@@ -17,12 +18,16 @@ mod broken;
 mod call;
 #[path = "compare/choice.rs"]
 mod choice;
+#[path = "compare/counter.rs"]
+mod counter;
 #[path = "compare/damage.rs"]
 mod damage;
 #[path = "compare/devices.rs"]
 mod devices;
 #[path = "compare/difference.rs"]
 mod difference;
+#[path = "compare/frames.rs"]
+mod frames;
 #[path = "compare/histories.rs"]
 mod histories;
 #[path = "compare/hold_breaks.rs"]
@@ -45,6 +50,10 @@ mod holds;
 mod levels;
 #[path = "compare/lines.rs"]
 mod lines;
+#[path = "compare/noise.rs"]
+mod noise;
+#[path = "compare/noisy_lines.rs"]
+mod noisy_lines;
 #[path = "compare/pair.rs"]
 mod pair;
 #[path = "compare/parts.rs"]
@@ -53,14 +62,24 @@ mod parts;
 mod random;
 #[path = "compare/rates.rs"]
 mod rates;
+#[path = "compare/sampling.rs"]
+mod sampling;
 #[path = "compare/tally.rs"]
 mod tally;
+#[path = "compare/votes.rs"]
+mod votes;
 #[path = "compare/wires.rs"]
 mod wires;
+#[path = "compare/wrong_asks.rs"]
+mod wrong_asks;
 #[path = "compare/wrong_clocks.rs"]
 mod wrong_clocks;
+#[path = "compare/wrong_counts.rs"]
+mod wrong_counts;
 #[path = "compare/wrong_holds.rs"]
 mod wrong_holds;
+#[path = "compare/wrong_ways.rs"]
+mod wrong_ways;
 
 use random::Random;
 use tally::Tally;
@@ -72,7 +91,7 @@ type Part = parts::Part<Run>;
 
 /// A round is a history, a device, a record, or some of them.
 #[rustfmt::skip] // a line each
-const PARTS: [Part; 7] = [
+const PARTS: [Part; 8] = [
     Part { name: "random histories", run: histories::run, rounds: 36_000 },
     Part { name: "random valid devices", run: devices::run, rounds: 1_400_000 },
     Part { name: "damaged records", run: damage::run, rounds: 4_500_000 },
@@ -80,6 +99,7 @@ const PARTS: [Part; 7] = [
     Part { name: "devices joined by wires", run: wires::run, rounds: 35 },
     Part { name: "records that break one rule", run: broken::run, rounds: 10_000 },
     Part { name: "long holds", run: holds::run, rounds: 1 },
+    Part { name: "lines with noise", run: noise::run, rounds: 50 },
 ];
 
 fn main() {
@@ -91,6 +111,8 @@ fn compare_all(seed: u64, scale: u64) -> Result<(), String> {
     parts::all(&PARTS, seed, |run, rounds, random| run(rounds * scale, random, &mut tally))?;
     tally.complete()?;
     tally.wrong_holds = wrong_holds::all_are_seen(seed)?;
+    tally.wrong_counts = wrong_counts::all_are_seen(seed)?;
+    tally.noise.two_turned_over = wrong_counts::two_turned_over_are_seen(seed)?;
     println!("{:34}{seed:>12}", "seed");
     println!("{:34}{scale:>12}", "scale");
     tally.print();

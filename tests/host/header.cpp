@@ -31,6 +31,8 @@ int main()
     expect("output of a hold", output, WARPMAGPIE_DRIVES_TXD | WARPMAGPIE_OUTPUT_TXD);
     expect("requests", warpmagpie_requests(record, sizeof record, &requests), WARPMAGPIE_DONE);
     expect("bits of the report", requests, WARPMAGPIE_REQUEST_UDRE);
+    expect("split votes", warpmagpie_split_votes(record, sizeof record, &value), WARPMAGPIE_DONE);
+    expect("split votes of no frame", value, 0);
     const uint8_t items[WARPMAGPIE_TRACE_ITEM_LEN] = {'C', 17, 0, 0, 16, 0, 0, 0};
     uint8_t text[32], shrunk[32];
     size_t length = 0;

@@ -17,9 +17,9 @@ enum {
     BEFORE = 0xA5   /* what value and output are before a call */
 };
 
-enum call { WRITE, READ, VECTOR, RUN, REQUESTS, CALLS };
+enum call { WRITE, READ, VECTOR, RUN, REQUESTS, SPLIT_VOTES, CALLS };
 
-static const char *const CALL_NAMES[CALLS] = {"write", "read", "vector", "run", "requests"};
+static const char *const CALL_NAMES[CALLS] = {"write", "read", "vector", "run", "requests", "split votes"};
 
 static void expect(const char *what, size_t line, unsigned got, unsigned wanted)
 {
@@ -45,7 +45,8 @@ static uint8_t make_call(enum call which, uint8_t record[WARPMAGPIE_RECORD_LEN],
     case READ: return warpmagpie_read(record, len, WARPMAGPIE_UCSR0A, &left->value);
     case VECTOR: return warpmagpie_take_vector(record, len, WARPMAGPIE_VECTOR_TXC);
     case RUN: return warpmagpie_run(record, len, &LEVEL, 1, &left->output, 1);
-    default: return warpmagpie_requests(record, len, &left->value);
+    case REQUESTS: return warpmagpie_requests(record, len, &left->value);
+    default: return warpmagpie_split_votes(record, len, &left->value);
     }
 }
 
@@ -59,7 +60,8 @@ static void refused(const uint8_t record[WARPMAGPIE_RECORD_LEN], size_t line)
         expect(CALL_NAMES[which], line, make_call(which, bytes, &left), WARPMAGPIE_REFUSED_RECORD);
         expect("record of a refused call", line, memcmp(bytes, record, sizeof bytes) != 0, false);
         expect("output of a refused call", line, left.output, BEFORE);
-        expect("value of a refused call", line, left.value, which == READ || which == REQUESTS ? 0 : BEFORE);
+        expect("value of a refused call", line, left.value,
+               which == READ || which == REQUESTS || which == SPLIT_VOTES ? 0 : BEFORE);
     }
 }
 

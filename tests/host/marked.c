@@ -1,5 +1,5 @@
-/* M8 and M10 of document 01 through the archive, and each refusal once at the C boundary. Exits with 1 at the first
-   difference. */
+/* M8 and M10 of document 01 and the split votes of document 02's M-101 through the archive, and each refusal once at
+   the C boundary. Exits with 1 at the first difference. */
 #include <stdio.h>
 #include <stdlib.h>
 #include <string.h>
@@ -100,6 +100,53 @@ static void m10(void)
     puts("M10: reads give 1 and 2 without DOR, 4 with DOR");
 }
 
+/* A bit on RxD, of 16 clocks, each one a sample; noise turns over this one of them, counted from 1, or none at 0. */
+static void noisy_bit(uint8_t level, int sample)
+{
+    for (int n = 1; n <= 16; n++)
+        clocks(n == sample ? !level : level, 1);
+}
+
+/* The longest frame: start bit, nine data bits, even parity, stop bit. One vote, by turns sample 8, 9 and 10, is turned
+   over in each of its first k bits; sample 3 and 14 of the others, which do not vote. The stop bit's last vote stays:
+   the receiver would remember it low. */
+static void noisy_frame(unsigned data, int k)
+{
+    enum { BITS = 12 };
+    unsigned bits = data << 1 | (unsigned)__builtin_parity(data) << 10 | 1u << 11;
+    for (int bit = 0; bit < BITS; bit++) {
+        int vote = bit == BITS - 1 ? 9 : 8 + bit % 3;
+        noisy_bit(bits >> bit & 1, bit < k ? vote : bit % 2 ? 3 : 14);
+    }
+}
+
+static uint8_t split_votes(void)
+{
+    uint8_t count = 0xEE;
+    done("split votes", warpmagpie_split_votes(record, sizeof record, &count));
+    return count;
+}
+
+/* M-101: noise on one voting sample of k bits gives k, each frame its own, the oldest's first; the frames are whole. */
+static void m101(void)
+{
+    done("reset", warpmagpie_reset(record, sizeof record));
+    put(WARPMAGPIE_UCSR0C, WARPMAGPIE_UPM_EVEN | WARPMAGPIE_UCSZ1 | WARPMAGPIE_UCSZ0);
+    put(WARPMAGPIE_UCSR0B, WARPMAGPIE_RXEN | WARPMAGPIE_UCSZ2);
+    clocks(WARPMAGPIE_LEVEL_RXD, 16);
+    for (int k = 0; k <= 12; k++) {
+        expect("split votes of no frame", split_votes(), 0);
+        noisy_frame(0x155, k);
+        noisy_frame(0x0AA, 12 - k);
+        expect("split votes of the first frame", split_votes(), (unsigned)k);
+        expect("its ninth bit", get(WARPMAGPIE_UCSR0B) & WARPMAGPIE_RXB8, WARPMAGPIE_RXB8);
+        take(0x55, 0);
+        expect("split votes of the second", split_votes(), (unsigned)(12 - k));
+        take(0xAA, 0);
+    }
+    puts("M-101: noise on one voting sample of k bits, 0 to 12, is k split votes, and the frame is whole");
+}
+
 static void refusals(void)
 {
     uint8_t before[WARPMAGPIE_RECORD_LEN], levels[3] = {1, 0x20, 1}, outputs[3] = {7, 7, 7}, value = 9;
@@ -121,6 +168,9 @@ static void refusals(void)
     expect("record untouched", (unsigned)memcmp(before, record, sizeof before), 0);
     record[62] = 1;
     expect("stray byte", warpmagpie_requests(record, sizeof record, &value), WARPMAGPIE_REFUSED_RECORD);
+    value = 9;
+    expect("stray byte", warpmagpie_split_votes(record, sizeof record, &value), WARPMAGPIE_REFUSED_RECORD);
+    expect("split votes of a refused call", value, 0);
     done("reset of any bytes", warpmagpie_reset(record, sizeof record));
     expect("record after reset", (unsigned)memcmp(before, record, sizeof before), 0);
     put(WARPMAGPIE_UCSR0B, WARPMAGPIE_TXEN);
@@ -171,6 +221,7 @@ int main(void)
 {
     m8();
     m10();
+    m101();
     all_refusals();
     return 0;
 }

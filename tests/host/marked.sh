@@ -1,5 +1,5 @@
 #!/usr/bin/env bash
-# Links a C program with the archive and runs it: M8, M10 and each refusal by hand.
+# Links a C program with the archive and runs it: M8, M10, M-101 and each refusal by hand.
 set -eu
 cd "$(dirname "$0")/../.."
 bash scripts/archive.sh

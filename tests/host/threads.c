@@ -86,6 +86,7 @@ static void random_call(struct work *work)
     case 4:
     case 5:
     case 6: answer = warpmagpie_write(work->record, sizeof work->record, place->address, written); break;
+    case 7: answer = warpmagpie_split_votes(work->record, sizeof work->record, &value); break;
     default: answer = random_run(work); break;
     }
     work->done += answer == WARPMAGPIE_DONE;

@@ -1,5 +1,5 @@
--- The device at reset and at a clock, its output byte and its requests (document 01, 'SPI', level byte; 'Receiver'), and
--- the split votes of its oldest frame (document 02, M-101).
+-- The device at reset and at a clock, its output byte and its requests (document 01, 'SPI', level byte; 'Receiver'),
+-- and the split votes of its oldest frame (document 02, M-101).
 use Prim.Native.Nat.{ℕ, _+_, _*_, _/_, _%_}
 use mathlib.Core.Bool.{Bool}
 use lib.Dec.{eqb}

@@ -1,6 +1,6 @@
 -- SPI traffic never changes a serial answer (document 01, 'The line of demand 3', its end): what the serial side of a
--- history is, and what it is answered. A query is no part of it: it may stand anywhere, and bits 0 to 2 of a report, and
--- all of the split votes, are those of the serial side where it stands.
+-- history is, and what it is answered. A query is no part of it: it may stand anywhere, and bits 0 to 2 of a report,
+-- and all of the split votes, are those of the serial side where it stands.
 use Prim.Native.Nat.{ℕ, _%_}
 use mathlib.Core.List.{List, [], _∷_, map}
 use mathlib.Core.Path.{_≡_}
@@ -55,8 +55,8 @@ abbrev pub requestBits : List ℕ → ℕ
 requestBits s = requestsValue s % 8
 
 -- two histories from one serial device, with the same serial calls and resets in order and the same clocks and RxD
--- levels between them, however split into runs and holds; what else is in them, queries too, and whose SPI is in which state, is
--- free
+-- levels between them, however split into runs and holds; what else is in them, queries too, and whose SPI is in which
+-- state, is free
 pub record Alike (d e : Device) (s t : List ℕ) (cs ds : List Call) : Type 0 where
   pub first : decodeOf s ≡ Accepted d
   pub second : decodeOf t ≡ Accepted e

@@ -104,8 +104,8 @@ shifted-one n h =
     let least = pow-pos n in
     (omega arith, omega (arith, least))
 
--- at most as many split votes as bits decided, with b the bit that is sampled, s its samples and c the count: before its
--- last vote, and from there on
+-- at most as many split votes as bits decided, with b the bit that is sampled, s its samples and c the count: before
+-- its last vote, and from there on
 
 pub splits-before : (v s b c : ℕ) → s < v + 2 → leb c b ≡ leb c (pick (ltb s (v + 2)) b (b + 1))
 splits-before v s b c h = rw (lt-ltb s (v + 2) h)

@@ -8,7 +8,7 @@ use Rattle.choice.proofs.Picks.{split}
 use Rattle.frame.specs.Format.{firstVote}
 use Rattle.frame.specs.Word.{wordOf, parityError}
 use Rattle.frame.proofs.WordLaws.{frame-parity}
-use Rattle.usart.specs.Valid.{ValidShifter, ValidSampler, isInShift}
+use Rattle.usart.specs.Valid.{votedBits, ValidShifter, ValidSampler, isInShift}
 use Rattle.usart.specs.declared.sender.Transmission.{Transmission}
 use Rattle.usart.specs.declared.sender.ShiftRegister.the-variants.{Sending}
 use Rattle.usart.specs.declared.sampler.Reception.{Reception}
@@ -16,10 +16,13 @@ use Rattle.usart.specs.declared.sampler.Sampler.the-variants.{Receiving}
 use Rattle.spi.specs.Control.{isMaster, modeOf}
 use Rattle.spi.specs.Unit.{sckOf}
 use Rattle.spi.specs.Valid.{isFirstOut, firstBit}
+use Rattle.device.specs.Unit.{splitVotes}
 use Rattle.device.specs.Valid.{Valid}
 use Rattle.device.specs.declared.unit.Device.{Device}
+use Rattle.record.specs.Parts.{secondIn}
 use Rattle.record.specs.Codec.{decodeOf}
 use Rattle.record.specs.declared.codec.Decoded.the-variants.{Accepted}
+use Rattle.record.proofs.LiftLaws.{valid-oldest, valid-second}
 use Rattle.record.proofs.Round.{decode-valid}
 
 module _ (s : List ℕ) (d : Device) (h : decodeOf s ≡ Accepted d) where
@@ -48,6 +51,17 @@ module _ (s : List ℕ) (d : Device) (h : decodeOf s ≡ Accepted d) where
   votes-spent r e l = (
     split (r .first) (λ k. let w = received r e .first k .1 in absurd (omega arith)) (λ k. k),
     split (r .second) (λ k. let w = received r e .second k in absurd (omega arith)) (λ k. k),
+  )
+
+  -- no more votes of a frame are split than bits of it are decided
+  pub splits-few : (r : Reception) → d .usart .receiver .sampler ≡ Receiving r → r .splits ≤ votedBits (d .usart .format) r
+  splits-few r e = received r e .splits
+
+  -- .. and the frames that are held have 0 to 12
+  pub splits-most : (splitVotes d ≤ 12) × (secondIn (d .usart .receiver .queue .places) .splits ≤ 12)
+  splits-most = (
+    valid-oldest (d .usart .receiver .queue .places) (v .usart .receiver .places) .splits,
+    valid-second (d .usart .receiver .queue .places) (v .usart .receiver .places) .splits,
   )
 
   -- the ticks of a frame under way are UBRR + 1 clocks apart

@@ -1,4 +1,4 @@
--- The count of split votes (document 02, M-101): each vote adds one at most, so no frame has more than bits are decided.
+-- The count of split votes (document 02, M-101): each vote adds one at most, so no frame has more than bits decided.
 use Prim.Native.Nat.{ℕ, _+_, _≤_, _<_}
 use mathlib.Core.Bool.{Bool, true, false, not}
 use mathlib.Core.Path.{_≡_}

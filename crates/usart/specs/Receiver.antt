@@ -15,8 +15,8 @@ use Rattle.usart.specs.declared.queue.Places.the-variants.{Empty}
 use Rattle.usart.specs.declared.queue.Queue.{Queue}
 use Rattle.usart.specs.declared.receiver.Receiver.{Receiver}
 
--- each frame with its data, FE (stop voted low), UPE (parity on and wrong) and, by M-101, 'the count of split votes over
--- start, data, parity and stop'
+-- each frame with its data, FE (stop voted low), UPE (parity on and wrong) and, by M-101, 'the count of split votes
+-- over start, data, parity and stop'
 abbrev pub frameOf : Format → ℕ → Bool → ℕ → Frame
 frameOf f word stop splits =
     record { «data» = dataOf f word; fe = not stop; upe = parityError f word; dor = false; splits = splits }

@@ -60,8 +60,8 @@ shiftedOf f r level = pick level (withWord r (r .word / 2 + 2 ^ (wordBits f - 1)
 abbrev pub mostVotes : ℕ
 mostVotes = 12
 
--- one more vote: a split one is counted. The limit is never met, since a frame has no more bits (proofs/SamplerLaws.antt
--- `below-most`); with it the count is total
+-- one more vote: a split one is counted. A frame has no more bits than the limit, so it is never met
+-- (proofs/TallyLaws.antt `below-most`); with it the count is total
 unfoldable pub tallyOf : ℕ → Bool → ℕ
 tallyOf splits unanimous = pick unanimous splits (pick (ltb splits mostVotes) (splits + 1) splits)
 

@@ -66,7 +66,7 @@ fn idle(last: bool, rxd: bool) -> Sampled
     }
 }
 
-// One more vote: a split one is counted. (No frame has more than are counted: `SamplerLaws.antt`, `below-most`.)
+// One more vote: a split one is counted. (No frame has more votes than that: `below-most`, proofs/TallyLaws.antt.)
 fn tally(splits: u8, unanimous: bool) -> u8
     ensures { λ r. ⌜ r ≡ tallyOf splits unanimous ⌝ }
 {
@@ -157,8 +157,8 @@ impl Reception {
         }
     }
 
-    // Sample n of the bit, which is not its last. At the last vote the two that were kept are spent, and a split vote is
-    // counted.
+    // Sample n of the bit, which is not its last. At the last vote the two that were kept are spent, and a split vote
+    // is counted.
     fn voted(mut self, f: Format, n: Sample, rxd: bool) -> Sampled
         ensures { λ r. ⌜ r ≡ votedOf f self n rxd ⌝ }
     {

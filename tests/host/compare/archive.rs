@@ -18,6 +18,7 @@ extern "C" {
     ) -> u8;
     fn warpmagpie_hold(record: *mut c_uchar, record_len: usize, level: u8, clocks: u32, output: *mut u8) -> u8;
     fn warpmagpie_requests(record: *const c_uchar, record_len: usize, requests: *mut u8) -> u8;
+    fn warpmagpie_split_votes(record: *const c_uchar, record_len: usize, count: *mut u8) -> u8;
     fn warpmagpie_replay(
         record: *mut c_uchar,
         record_len: usize,
@@ -66,6 +67,11 @@ pub fn hold(record: &mut [u8], level: u8, clocks: u32, output: &mut u8) -> u8 {
 
 pub fn requests(record: &[u8], requests: &mut u8) -> u8 {
     unsafe { warpmagpie_requests(record.as_ptr(), record.len(), requests) }
+}
+
+#[allow(dead_code)] // not every program that has these calls asks for split votes
+pub fn split_votes(record: &[u8], count: &mut u8) -> u8 {
+    unsafe { warpmagpie_split_votes(record.as_ptr(), record.len(), count) }
 }
 
 #[allow(dead_code)] // not every program that has these calls replays

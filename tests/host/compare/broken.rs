@@ -7,7 +7,7 @@ use crate::choice::call_of_kind;
 use crate::devices::random_device;
 use crate::levels::Levels;
 use crate::model::frame::Parity;
-use crate::model::layout;
+use crate::model::layout::{self, held};
 use crate::model::receiver::{Line, Receiving};
 use crate::model::record::{decode, Bytes};
 use crate::model::spi::{CPHA, MSTR, SPE};
@@ -18,6 +18,10 @@ use crate::random::Random;
 use crate::tally::{Tally, KINDS};
 
 const LONGEST_RUN: u64 = 40;
+/// Bytes that count split votes, and the most that each can hold; no stop bit is decided while a frame is under way.
+const UNDER_WAY: (usize, u8) = (layout::SPLIT_VOTES, held::SPLIT_VOTES_LAST - 1);
+const OLDEST: (usize, u8) = (layout::OLDEST_SPLIT_VOTES, held::SPLIT_VOTES_LAST);
+const SECOND: (usize, u8) = (layout::SECOND_SPLIT_VOTES, held::SPLIT_VOTES_LAST);
 
 /// A rule: what breaks it, the devices in which that can be done, and how.
 struct Rule {
@@ -26,7 +30,7 @@ struct Rule {
     damage: fn(&Device, &mut Bytes, &mut Random),
 }
 
-const RULES: [Rule; 18] = [
+const RULES: [Rule; 23] = [
     Rule {
         broken_by: "a word in the shifter with a wrong parity bit",
         shape: |device| sends(device) && device.usart.format.parity != Parity::Off,
@@ -70,6 +74,31 @@ const RULES: [Rule; 18] = [
             let stray = random_bits_of(bits_to_come(device), random);
             change_word(bytes, layout::RECEIVED_WORD, |word| word | stray);
         },
+    },
+    Rule {
+        broken_by: "more split votes than bits decided, before the present bit's last vote",
+        shape: |device| !is_decided(device) && can_split_more(device),
+        damage: put_split_votes_above,
+    },
+    Rule {
+        broken_by: "more split votes than bits decided, past the present bit's last vote",
+        shape: |device| is_decided(device) && can_split_more(device),
+        damage: put_split_votes_above,
+    },
+    Rule {
+        broken_by: "split votes while no frame is being received",
+        shape: |device| !device.usart.receiver.busy(),
+        damage: |_, bytes, random| put_split_votes(bytes, UNDER_WAY, 1, random),
+    },
+    Rule {
+        broken_by: "split votes of an oldest frame while none is held",
+        shape: |device| device.usart.receiver.oldest.is_none(),
+        damage: |_, bytes, random| put_split_votes(bytes, OLDEST, 1, random),
+    },
+    Rule {
+        broken_by: "split votes of a second frame while only one is held",
+        shape: holds_one,
+        damage: |_, bytes, random| put_split_votes(bytes, SECOND, 1, random),
     },
     Rule {
         broken_by: "a master with CPHA 0 and no edge yet that does not show its first bit",
@@ -209,17 +238,42 @@ fn is_before_vote(device: &Device, before_last: u8) -> bool {
     receives(device, |frame| frame.samples < vote)
 }
 
-/// The bits of the word being received that have not come in: the low D - n after n decided ones.
+/// The bits decided of the frame being received: those before the one being sampled, and that one past its last vote.
+fn bits_decided(device: &Device) -> u8 {
+    match &device.usart.receiver.line {
+        Line::Frame(frame) => frame.bit + is_decided(device) as u8,
+        Line::Idle { .. } => 0,
+    }
+}
+
+/// The bits of the word being received that have not come in: the low D - n after n decided ones, of which the start
+/// bit is none.
 fn bits_to_come(device: &Device) -> u16 {
-    let Line::Frame(frame) = &device.usart.receiver.line else {
+    if !device.usart.receiver.busy() {
         return 0;
-    };
-    let decided = match (frame.bit, is_decided(device)) {
-        (0, _) => 0,
-        (bit, false) => bit - 1,
-        (bit, true) => bit,
-    };
-    (1 << (device.usart.format.word_bits() - decided)) - 1
+    }
+    let came_in = bits_decided(device).saturating_sub(1);
+    (1 << (device.usart.format.word_bits() - came_in)) - 1
+}
+
+/// A frame is being received, and its split votes can be more than its bits decided, and yet within the byte's range.
+fn can_split_more(device: &Device) -> bool {
+    device.usart.receiver.busy() && bits_decided(device) < UNDER_WAY.1
+}
+
+fn put_split_votes_above(device: &Device, bytes: &mut Bytes, random: &mut Random) {
+    put_split_votes(bytes, UNDER_WAY, bits_decided(device) + 1, random);
+}
+
+/// Puts a count within the byte's range; as often as not the least that breaks the rule.
+fn put_split_votes(bytes: &mut Bytes, (place, most): (usize, u8), least: u8, random: &mut Random) {
+    let any = random.between(least.into(), most.into()) as u8;
+    bytes[place] = random.pick(&[least, any]);
+}
+
+fn holds_one(device: &Device) -> bool {
+    let receiver = &device.usart.receiver;
+    receiver.oldest.is_some() && receiver.second.is_none()
 }
 
 /// A master's byte is under way, after so many edges.

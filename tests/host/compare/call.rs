@@ -30,10 +30,26 @@ pub enum Call<'a> {
         level: u8,
         clocks: u32,
     },
+    SplitVotes,
 }
 
 /// A hold on a record's bytes: the archive's, or one that is wrong on purpose.
 pub type Hold = fn(&mut [u8], u8, u32, &mut u8) -> u8;
+
+/// The call for the split votes on a record's bytes: the archive's, or one that is wrong on purpose.
+pub type SplitVotes = fn(&[u8], &mut u8) -> u8;
+
+/// Calls of the archive in whose place wrong ones can be put.
+#[derive(Clone, Copy)]
+pub struct Calls {
+    pub hold: Hold,
+    pub split_votes: SplitVotes,
+}
+
+pub const ARCHIVE: Calls = Calls {
+    hold: archive::hold,
+    split_votes: archive::split_votes,
+};
 
 /// What a call answers: the number, the value (0 where the call has none; a hold's is its output byte) and the output
 /// slice after it.
@@ -78,11 +94,15 @@ impl Call<'_> {
             Call::Run { .. } => 4,
             Call::Requests => 5,
             Call::Hold { .. } => 6,
+            Call::SplitVotes => 7,
         }
     }
 
     fn has_value(&self) -> bool {
-        matches!(self, Call::Read { .. } | Call::Requests | Call::Hold { .. })
+        matches!(
+            self,
+            Call::Read { .. } | Call::Requests | Call::Hold { .. } | Call::SplitVotes
+        )
     }
 
     fn outputs(&self) -> Vec<u8> {
@@ -113,12 +133,14 @@ impl fmt::Display for Call<'_> {
             Call::Hold { level, clocks } => {
                 write!(to, "hold of level {level:02x} for {clocks} clocks")
             }
-            Call::Reset | Call::Requests => write!(to, "{}", KINDS[self.kind()]),
+            Call::Reset | Call::Requests | Call::SplitVotes => {
+                write!(to, "{}", KINDS[self.kind()])
+            }
         }
     }
 }
 
-fn archive_answer(hold: Hold, record: &mut [u8], call: &Call) -> Answer {
+fn archive_answer(calls: &Calls, record: &mut [u8], call: &Call) -> Answer {
     let mut outputs = call.outputs();
     let mut value = if call.has_value() { BEFORE } else { 0 };
     let number = match *call {
@@ -128,7 +150,8 @@ fn archive_answer(hold: Hold, record: &mut [u8], call: &Call) -> Answer {
         Call::TakeVector { vector } => archive::take_vector(record, vector),
         Call::Run { levels, .. } => archive::run(record, levels, &mut outputs),
         Call::Requests => archive::requests(record, &mut value),
-        Call::Hold { level, clocks } => hold(record, level, clocks, &mut value),
+        Call::Hold { level, clocks } => (calls.hold)(record, level, clocks, &mut value),
+        Call::SplitVotes => (calls.split_votes)(record, &mut value),
     };
     Answer {
         number,
@@ -159,6 +182,7 @@ fn model_answer(
         }
         (Call::Requests, Some(device)) => (number::DONE, device.requests()),
         (Call::Hold { level, clocks }, Some(device)) => model_hold(device, level, clocks, tally),
+        (Call::SplitVotes, Some(device)) => (number::DONE, device.split_votes()),
     };
     Answer {
         number,
@@ -209,12 +233,12 @@ pub fn compare(
     call: Call,
     tally: &mut Tally,
 ) -> Result<Answer, String> {
-    compare_by(archive::hold, record, device, call, tally)
+    compare_by(&ARCHIVE, record, device, call, tally)
 }
 
-/// The same with this hold in the place of the archive's.
+/// The same with these calls in the place of the archive's.
 pub fn compare_by(
-    hold: Hold,
+    calls: &Calls,
     record: &mut [u8],
     device: &mut Option<Device>,
     call: Call,
@@ -224,19 +248,19 @@ pub fn compare_by(
         answer: model_answer(device, record.len(), &call, tally),
         device: *device,
     };
-    compare_with(hold, record, &after, call, tally)
+    compare_with(calls, record, &after, call, tally)
 }
 
 /// Makes the call on the record alone and compares with what has to stand after it.
 pub fn compare_with(
-    hold: Hold,
+    calls: &Calls,
     record: &mut [u8],
     after: &After,
     call: Call,
     tally: &mut Tally,
 ) -> Result<Answer, String> {
     let before = record.to_vec();
-    let given = archive_answer(hold, record, &call);
+    let given = archive_answer(calls, record, &call);
     let expected = &after.answer;
     tally.count_call(&call, expected.number);
     let expected_record = after

@@ -12,14 +12,15 @@ pub fn random_call<'a>(
     longest: u64,
     random: &mut Random,
 ) -> Call<'a> {
-    // Runs, holds, writes, reads, vectors, reports and resets.
+    // Runs, holds, writes, reads, vectors, reports, split votes and resets.
     let kind = match random.below(1000) {
         0..=359 => 4,
         360..=419 => 6,
         420..=689 => 1,
         690..=879 => 2,
         880..=939 => 3,
-        940..=997 => 5,
+        940..=967 => 5,
+        968..=997 => 7,
         _ => 0,
     };
     call_of_kind(kind, device, levels, longest, random)
@@ -44,7 +45,8 @@ pub fn call_of_kind<'a>(
         },
         4 => random_run(device, levels, longest, random),
         5 => Call::Requests,
-        _ => random_hold(device, levels, longest, random),
+        6 => random_hold(device, levels, longest, random),
+        _ => Call::SplitVotes,
     }
 }
 

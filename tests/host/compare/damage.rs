@@ -116,6 +116,14 @@ fn limit(place: usize, device: &Device) -> u16 {
             Line::Frame(frame) if frame.bit > format.word_bits() => format.last_vote() as u16,
             _ => format.ticks() as u16,
         },
+        // At most D + 1 bits are decided as long as the frame is being received.
+        layout::SPLIT_VOTES => match device.usart.receiver.line {
+            Line::Frame(frame) => frame.bits_decided(format) as u16 + 1,
+            _ => format.word_bits() as u16 + 2,
+        },
+        layout::OLDEST_SPLIT_VOTES | layout::SECOND_SPLIT_VOTES => {
+            held::SPLIT_VOTES_LAST as u16 + 1
+        }
         layout::FRAMES_HELD | layout::SPIF | layout::WCOL => 3,
         layout::OLDEST_FLAGS | layout::SECOND_FLAGS => held::LIMIT as u16,
         layout::OLDEST_DATA | layout::SECOND_DATA => 256,

@@ -4,6 +4,7 @@
 use crate::choice::random_call;
 use crate::levels::Levels;
 use crate::model::frame::{Format, Parity};
+use crate::model::layout::held;
 use crate::model::receiver::{Line, Received, Receiver, Receiving};
 use crate::model::sender::{Sender, Shifting};
 use crate::model::spi::{Flag, Spi, EDGES, MSTR, SPE};
@@ -128,12 +129,20 @@ fn random_receiving(format: &Format, random: &mut Random) -> Receiving {
         samples: random.between(first, limit as u64 - 1) as u8,
         votes: [false; 2],
         word: 0,
+        split_votes: 0,
     };
     for vote in 0..frame.votes_kept(format) {
         frame.votes[vote] = random.flip();
     }
     frame.word = random.next() as u16 & format.word_mask() & !frame.bits_to_come(format);
+    frame.split_votes = random_split_votes(frame.bits_decided(format), random);
     frame
+}
+
+/// None, as many as there can be, or any number of them.
+fn random_split_votes(most: u8, random: &mut Random) -> u8 {
+    let any = random.between(0, most.into()) as u8;
+    random.pick(&[0, most, any, any])
 }
 
 fn random_received(random: &mut Random) -> Received {
@@ -142,6 +151,7 @@ fn random_received(random: &mut Random) -> Received {
         fe: random.flip(),
         upe: random.flip(),
         dor: random.flip(),
+        split_votes: random_split_votes(held::SPLIT_VOTES_LAST, random),
     }
 }
 

@@ -4,7 +4,7 @@ use crate::call::{Answer, Call};
 use crate::model::layout;
 
 /// First byte and name of each field of the record that is in use.
-const FIELDS: [(usize, &str); 37] = [
+const FIELDS: [(usize, &str); 40] = [
     (layout::UBRR, "UBRR"),
     (layout::COUNTER, "baud counter"),
     (layout::UCSR0A, "UCSR0A: TXC and U2X"),
@@ -23,12 +23,15 @@ const FIELDS: [(usize, &str); 37] = [
     (layout::FIRST_VOTE, "first vote"),
     (layout::SECOND_VOTE, "second vote"),
     (layout::RECEIVED_WORD, "bits received"),
+    (layout::SPLIT_VOTES, "split votes so far"),
     (layout::FRAMES_HELD, "frames held"),
     (layout::FRAME_LOST, "frame lost"),
     (layout::OLDEST_DATA, "oldest frame, data"),
     (layout::OLDEST_FLAGS, "oldest frame, ninth bit and flags"),
+    (layout::OLDEST_SPLIT_VOTES, "oldest frame, split votes"),
     (layout::SECOND_DATA, "second frame, data"),
     (layout::SECOND_FLAGS, "second frame, ninth bit and flags"),
+    (layout::SECOND_SPLIT_VOTES, "second frame, split votes"),
     (layout::SPCR, "SPCR"),
     (layout::SPI2X, "SPI2X"),
     (layout::DDRB, "DDRB"),

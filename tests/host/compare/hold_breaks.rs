@@ -23,7 +23,7 @@ const UBRR_LAST: u16 = 100;
 
 fn round(hold: Hold, _: u64, random: &mut Random, tally: &mut Tally) -> Result<(), String> {
     let mut pair = Pair::of(receiving_device(random))?;
-    pair.holds = hold;
+    pair.calls.hold = hold;
     let others = random_level(random) & !level::RXD;
     let usart = pair.device.usart;
     pair.hold(others, u32::from(usart.counter) + frame(&usart), tally)?;

@@ -38,7 +38,7 @@ pub fn random_pair(hold: Hold, random: &mut Random, tally: &mut Tally) -> Result
     } else {
         reached(random, tally)?
     };
-    pair.holds = hold;
+    pair.calls.hold = hold;
     Ok(pair)
 }
 

@@ -1,7 +1,7 @@
 //! Holds of one device for one length after another, beside single clocks of the model: every length for as long as an
 //! SPI master's byte takes, and those around the ticks, where votes, bits, frames and breaks end and TXC is set.
 
-use crate::call::{compare_with, model_clock, After, Call, Hold};
+use crate::call::{compare_with, model_clock, After, Call, Calls, Hold, ARCHIVE};
 use crate::hold_choice::{random_start, reached, turn, LONGEST, TICKS};
 use crate::holds::Scene;
 use crate::model::receiver::Line;
@@ -75,6 +75,7 @@ fn hold_each(
     random: &mut Random,
     tally: &mut Tally,
 ) -> Result<(), String> {
+    let calls = Calls { hold, ..ARCHIVE };
     let mut device = pair.device;
     let (mut passed, mut output) = (0, 0);
     for clocks in rising_lengths(&pair.device, random) {
@@ -85,7 +86,7 @@ fn hold_each(
         let mut record = pair.record;
         let after = After::hold(output, device);
         compare_with(
-            hold,
+            &calls,
             &mut record,
             &after,
             Call::Hold { level, clocks },

@@ -41,7 +41,7 @@ fn round(hold: Hold, _: u64, random: &mut Random, tally: &mut Tally) -> Result<(
         let any = random.between(0, longest.into()) as u32;
         let clocks = random.pick(&[0, 1, any, longest]);
         let call = Call::Hold { level, clocks };
-        let answer = compare_by(hold, &mut bytes, &mut device, call, tally)?;
+        let answer = compare_by(&pair.calls, &mut bytes, &mut device, call, tally)?;
         tally.holds_refused += (answer.number != number::DONE) as u64;
     }
     Ok(())

@@ -68,7 +68,7 @@ fn compare_whole(
     }
     let after = After::hold(output, left.device);
     let call = Call::Hold { level, clocks };
-    compare_with(pair.holds, &mut left.record, &after, call, tally)?;
+    compare_with(&pair.calls, &mut left.record, &after, call, tally)?;
     Ok((left, output))
 }
 
@@ -78,7 +78,7 @@ fn hold_in_two(pair: &Pair, level: u8, parts: [u32; 2]) -> Result<(Bytes, u8), S
     let mut output = 0;
     for clocks in parts {
         output = BEFORE;
-        let number = (pair.holds)(&mut record, level, clocks, &mut output);
+        let number = (pair.calls.hold)(&mut record, level, clocks, &mut output);
         if number != number::DONE || clocks == 0 && output != 0 {
             return Err(format!("{clocks} clocks: {number}, output {output:02x}"));
         }

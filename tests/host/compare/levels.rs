@@ -1,4 +1,5 @@
-//! Level bytes for runs: frames at about the device's rate on RxD, an SPI partner on SCK, SS, MOSI and MISO, and noise.
+//! Level bytes for runs: frames at about the device's rate on RxD, with clocks turned over in some runs, so that votes
+//! are split, an SPI partner on SCK, SS, MOSI and MISO, and noise.
 
 use crate::model::frame::Format;
 use crate::model::level;
@@ -7,6 +8,11 @@ use crate::random::Random;
 
 /// Parts of a clock in which the length of a bit is counted.
 const FINE: i64 = 256;
+
+/// So many runs in a hundred have frames with clocks turned over, one in so many: about every sixth bit then has a
+/// split vote. The other runs leave the frames as they are.
+const NOISY_RUNS: u64 = 30;
+const TURNED_OVER_IN: u64 = 16;
 
 #[derive(Clone, Copy)]
 enum Shape {
@@ -20,6 +26,8 @@ pub struct Levels {
     rxd_shape: Shape,
     spi_shape: Shape,
     constant: u8,
+    /// Clocks of frames are turned over.
+    noisy: bool,
     /// The level bytes of the last run.
     bytes: Vec<u8>,
     /// Frame on RxD: bits still to come, low first, and their number.
@@ -40,6 +48,7 @@ impl Levels {
             rxd_shape: Shape::Partner,
             spi_shape: Shape::Partner,
             constant: 0,
+            noisy: false,
             bytes: Vec::new(),
             bits: 0,
             bits_left: 0,
@@ -57,14 +66,18 @@ impl Levels {
         self.rxd_shape = random_shape(80, random);
         self.spi_shape = random_shape(60, random);
         self.constant = random.byte();
+        self.noisy = random.percent(NOISY_RUNS);
         self.bytes = (0..clocks).map(|_| self.next(usart, random)).collect();
         &mut self.bytes
     }
 
     fn next(&mut self, usart: &Usart, random: &mut Random) -> u8 {
-        let noise = random.byte();
+        let number = random.next();
+        let noise = number as u8;
+        // Bits above those of the noise.
+        let turned_over = self.noisy && (number >> 8) % TURNED_OVER_IN == 0;
         let rxd = match self.rxd_shape {
-            Shape::Partner => self.next_rxd(usart, random) as u8 * level::RXD,
+            Shape::Partner => (self.next_rxd(usart, random) ^ turned_over) as u8 * level::RXD,
             Shape::Constant => self.constant & level::RXD,
             Shape::Noise => noise & level::RXD,
         };

@@ -3,11 +3,12 @@
 use std::collections::VecDeque;
 
 use crate::devices::{random_device, random_format};
+use crate::frames::{read_frame, Frame};
 use crate::model::frame::Format;
 use crate::model::receiver::{Line, Receiver};
 use crate::model::sender::Sender;
-use crate::model::usart::{DOR, FE, RXB8, RXC, UPE};
-use crate::model::{address, layout, level};
+use crate::model::usart::RXC;
+use crate::model::{address, layout, level, Device};
 use crate::pair::Pair;
 use crate::random::Random;
 use crate::rates::{all_formats, bits_at_limit, check_m9, Bit};
@@ -76,8 +77,8 @@ fn random_line(frames: usize, format: &Format, bit: Bit, random: &mut Random) ->
     line
 }
 
-/// An idle receiver that remembers high, its baud counter not above UBRR, and anything else in the SPI.
-fn receiving_pair(format: &Format, ubrr: u16, random: &mut Random) -> Result<Pair, String> {
+/// An idle receiver that remembers high, its baud counter not above UBRR, and anything in the SPI.
+pub fn receiving_device(format: &Format, ubrr: u16, random: &mut Random) -> Device {
     let mut device = random_device(random);
     device.usart.format = *format;
     device.usart.ubrr = ubrr;
@@ -88,10 +89,10 @@ fn receiving_pair(format: &Format, ubrr: u16, random: &mut Random) -> Result<Pai
         line: Line::Idle { last: true },
         ..Receiver::reset()
     };
-    Pair::of(device)
+    device
 }
 
-/// A line within the limits: exactly its frames come out, in order, without flags, each in time.
+/// A line within the limits: exactly its frames come out, in order, without flags or split votes, each in time.
 fn line_inside(
     format: &Format,
     ubrr: u16,
@@ -101,13 +102,13 @@ fn line_inside(
     tally: &mut Tally,
 ) -> Result<(), String> {
     let line = random_line(frames, format, bit, random);
-    let mut pair = receiving_pair(format, ubrr, random)?;
+    let mut pair = Pair::of(receiving_device(format, ubrr, random))?;
     let mut unread = VecDeque::new();
     let mut clock = 0;
     for (&end, &data) in line.ends.iter().zip(&line.data) {
         run_in_pieces(&mut pair, &line.levels[clock..end], random, tally)?;
         clock = end;
-        unread.push_back(data);
+        unread.push_back(Frame::plain(data));
         // This frame has entered in time.
         let held = pair.record[layout::FRAMES_HELD];
         if held as usize != unread.len() {
@@ -119,8 +120,8 @@ fn line_inside(
     }
     let idle = vec![level::RXD; 2 * line.ends[0]];
     run_in_pieces(&mut pair, &idle, random, tally)?;
-    for data in unread.into_iter().map(Some).chain([None]) {
-        read_frame(&mut pair, data, tally)?;
+    for frame in unread.into_iter().map(Some).chain([None]) {
+        read_frame(&mut pair, frame, tally)?;
     }
     tally.line_frames += frames as u64;
     Ok(())
@@ -142,21 +143,6 @@ fn run_in_pieces(
     Ok(())
 }
 
-/// Reads the oldest frame, or finds none: flags and ninth bit first, since the read of UDR0 takes the frame away.
-pub fn read_frame(pair: &mut Pair, data: Option<u16>, tally: &mut Tally) -> Result<(), String> {
-    let status = pair.read(address::UCSR0A, tally)? & (RXC | FE | DOR | UPE);
-    let ninth = pair.read(address::UCSR0B, tally)? & RXB8 != 0;
-    let low = pair.read(address::UDR0, tally)?;
-    let found = (status, (ninth as u16) << 8 | low as u16);
-    let expected = data.map_or((0, 0), |data| (RXC, data));
-    if found != expected {
-        return Err(format!(
-            "status and data read: {found:02x?}, expected {expected:02x?}"
-        ));
-    }
-    Ok(())
-}
-
 /// A line up to 14 % off the rate: frames may come out wrong, but archive and model must agree.
 fn line_outside(random: &mut Random, tally: &mut Tally) -> Result<(), String> {
     let format = random_format(random);
@@ -166,7 +152,7 @@ fn line_outside(random: &mut Random, tally: &mut Tally) -> Result<(), String> {
         q: 100,
     };
     let line = random_line(FRAMES_OUTSIDE, &format, bit, random);
-    let mut pair = receiving_pair(&format, 0, random)?;
+    let mut pair = Pair::of(receiving_device(&format, 0, random))?;
     for piece in line.levels.chunks(50) {
         pair.run(piece, tally)?;
         if pair.read(address::UCSR0A, tally)? & RXC != 0 && random.percent(60) {

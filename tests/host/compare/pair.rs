@@ -1,7 +1,6 @@
 //! A valid record and the model's device that belongs to it, which go through the same calls.
 
-use crate::archive;
-use crate::call::{compare_by, Answer, Call, Hold};
+use crate::call::{compare_by, Answer, Call, Calls, ARCHIVE};
 use crate::model::record::{decode, encode, LENGTH};
 use crate::model::{address, number, Device};
 use crate::tally::Tally;
@@ -10,8 +9,8 @@ use crate::tally::Tally;
 pub struct Pair {
     pub record: [u8; LENGTH],
     pub device: Device,
-    /// What holds a level on the record: the archive, or a program that is wrong on purpose.
-    pub holds: Hold,
+    /// Whose calls are made on the record: the archive's, or some that are wrong on purpose.
+    pub calls: Calls,
 }
 
 impl Pair {
@@ -26,7 +25,7 @@ impl Pair {
         Ok(Pair {
             record,
             device,
-            holds: archive::hold,
+            calls: ARCHIVE,
         })
     }
 
@@ -35,7 +34,7 @@ impl Pair {
         let mut pair = Pair {
             record: [0xFF; LENGTH],
             device: Device::reset(),
-            holds: archive::hold,
+            calls: ARCHIVE,
         };
         pair.call(Call::Reset, tally)?;
         Ok(pair)
@@ -50,7 +49,7 @@ impl Pair {
 
     fn call_alone(&mut self, call: Call, tally: &mut Tally) -> Result<Answer, String> {
         let mut device = Some(self.device);
-        let answer = compare_by(self.holds, &mut self.record, &mut device, call, tally)?;
+        let answer = compare_by(&self.calls, &mut self.record, &mut device, call, tally)?;
         self.device = device.unwrap_or(self.device);
         Ok(answer)
     }
@@ -85,6 +84,12 @@ impl Pair {
     /// Holds a level for so many clocks; answers the last output byte.
     pub fn hold(&mut self, level: u8, clocks: u32, tally: &mut Tally) -> Result<u8, String> {
         self.done(Call::Hold { level, clocks }, tally)
+            .map(|answer| answer.value)
+    }
+
+    /// Asks for the split votes of the oldest frame held.
+    pub fn split_votes(&mut self, tally: &mut Tally) -> Result<u8, String> {
+        self.done(Call::SplitVotes, tally)
             .map(|answer| answer.value)
     }
 

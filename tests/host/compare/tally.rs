@@ -2,8 +2,9 @@
 
 use crate::call::Call;
 use crate::model::{level, spi, Device};
+use crate::votes::{NoiseTally, Votes};
 
-pub const KINDS: [&str; 7] = [
+pub const KINDS: [&str; 8] = [
     "reset",
     "write",
     "read",
@@ -11,11 +12,12 @@ pub const KINDS: [&str; 7] = [
     "run",
     "requests",
     "hold",
+    "split votes",
 ];
 
 #[derive(Default)]
 pub struct Tally {
-    pub calls: [u64; 7],
+    pub calls: [u64; 8],
     pub clocks: u64,
     pub frames_received: u64,
     pub frames_sent: u64,
@@ -39,6 +41,9 @@ pub struct Tally {
     pub holds_refused: u64,
     pub holds_split: u64,
     pub wrong_holds: u64,
+    pub votes: Votes,
+    pub noise: NoiseTally,
+    pub wrong_counts: u64,
 }
 
 impl Tally {
@@ -61,10 +66,14 @@ impl Tally {
         let master = before.spi.spcr & spi::MSTR != 0;
         let stayed = after.spi.spcr == before.spi.spcr && (master || level & level::SS == 0);
         self.spi_bytes += (before.spi.edges == 15 && after.spi.edges == 0 && stayed) as u64;
+        self.votes
+            .count_clock(&before.usart, level & level::RXD != 0);
     }
 
-    /// Every refusal must have been met, and both ends of a break.
+    /// Every refusal must have been met, both ends of a break, and split votes of every kind and number.
     pub fn complete(&self) -> Result<(), String> {
+        self.votes.complete()?;
+        self.noise.complete()?;
         if self.starts_after_breaks == 0 || self.breaks_gone_on == 0 {
             return Err("breaks ended all alike".to_string());
         }
@@ -78,7 +87,7 @@ impl Tally {
 
     pub fn print(&self) {
         for (kind, calls) in KINDS.iter().zip(self.calls) {
-            println!("{:34}{calls:>12}", format!("calls, {kind}"));
+            print_row(&format!("calls, {kind}"), calls);
         }
         let rows = [
             ("clocks", self.clocks),
@@ -100,16 +109,19 @@ impl Tally {
             ("holds refused", self.holds_refused),
             ("holds split in two", self.holds_split),
             ("wrong holds seen", self.wrong_holds),
+            ("wrong counts seen", self.wrong_counts),
         ];
         for (name, count) in rows {
-            println!("{name:34}{count:>12}");
+            print_row(name, count);
         }
+        self.votes.print();
+        self.noise.print();
         for number in 1..=8 {
-            println!(
-                "{:34}{:>12}",
-                format!("refusals with {number}"),
-                self.numbers[number]
-            );
+            print_row(&format!("refusals with {number}"), self.numbers[number]);
         }
     }
+}
+
+pub fn print_row(name: &str, count: u64) {
+    println!("{name:34}{count:>12}");
 }

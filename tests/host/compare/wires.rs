@@ -1,6 +1,6 @@
 //! Part 5: archive devices joined by wires: sender to receiver with unequal crystals, SPI master to SPI slave.
 
-use crate::lines::read_frame;
+use crate::frames::{read_frame, Frame};
 use crate::model::frame::Format;
 use crate::model::usart::{RXC, RXEN, TXB8, TXEN, UCSZ2, UDRE};
 use crate::model::{address, level, output, spi};
@@ -63,7 +63,7 @@ fn serial(format: &Format, ubrr: u8, random: &mut Random, tally: &mut Tally) -> 
     for piece in levels.chunks(60) {
         receiver.run(piece, tally)?;
         while receiver.read(address::UCSR0A, tally)? & RXC != 0 {
-            read_frame(&mut receiver, data.next(), tally)?;
+            read_frame(&mut receiver, data.next().map(Frame::plain), tally)?;
         }
     }
     if data.next().is_some() {

@@ -101,6 +101,16 @@ pub fn sample_not_remembered(device: &mut Device, level: u8) -> u8 {
     output
 }
 
+/// A bit that is decided counts no split vote.
+pub fn split_not_counted(device: &mut Device, level: u8) -> u8 {
+    let before = device.usart.receiver.line;
+    let output = device.clock(level);
+    if let (Line::Frame(before), Line::Frame(after)) = (before, &mut device.usart.receiver.line) {
+        after.split_votes = before.split_votes;
+    }
+    output
+}
+
 /// The next low sample is a start, whatever the one before it was.
 pub fn low_is_a_start(device: &mut Device, level: u8) -> u8 {
     if let Line::Idle { last } = &mut device.usart.receiver.line {

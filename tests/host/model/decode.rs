@@ -9,6 +9,10 @@ use super::spi::{Flag, Spi, EDGES, MSTR, SPE};
 use super::usart::{Usart, RXCIE, RXEN, TXB8, TXC, TXCIE, TXEN, U2X, UBRR_LAST, UCSZ2, UDRIE, USBS};
 use super::Device;
 
+/// The bytes of the frames held: data bits 7 to 0, the ninth with the flags, and the split votes.
+const OLDEST: [usize; 3] = [layout::OLDEST_DATA, layout::OLDEST_FLAGS, layout::OLDEST_SPLIT_VOTES];
+const SECOND: [usize; 3] = [layout::SECOND_DATA, layout::SECOND_FLAGS, layout::SECOND_SPLIT_VOTES];
+
 /// The device of the fields in use, none if one is out of its range or does not fit the others. Bits and bytes not in
 /// use are not looked at.
 pub fn device(bytes: &Bytes) -> Option<Device> {
@@ -101,10 +105,10 @@ fn get_receiver(bytes: &Bytes, format: &Format) -> Option<Receiver> {
     let (mut oldest, mut second) = (None, None);
     let frames_held = get_below(bytes, layout::FRAMES_HELD, 3)?;
     if frames_held > 0 {
-        oldest = Some(get_received(bytes, layout::OLDEST_DATA, layout::OLDEST_FLAGS)?);
+        oldest = Some(get_received(bytes, OLDEST)?);
     }
     if frames_held > 1 {
-        second = Some(get_received(bytes, layout::SECOND_DATA, layout::SECOND_FLAGS)?);
+        second = Some(get_received(bytes, SECOND)?);
     }
     Some(Receiver {
         rxen: true,
@@ -132,22 +136,26 @@ fn get_receiving(bytes: &Bytes, format: &Format) -> Option<Receiving> {
             get_bool(bytes, layout::SECOND_VOTE)?,
         ],
         word: get_word(bytes, layout::RECEIVED_WORD, format.word_mask() + 1)?,
+        split_votes: bytes[layout::SPLIT_VOTES],
     };
     // Sample 1 begins the start bit.
     let begun = bit > 0 || frame.samples > 0;
     let kept = frame.votes_kept(format);
     let votes_fit = frame.votes[kept..].iter().all(|vote| !vote);
     let word_fits = frame.word & frame.bits_to_come(format) == 0;
-    (begun && votes_fit && word_fits).then_some(frame)
+    let splits_fit = frame.split_votes <= frame.bits_decided(format);
+    (begun && votes_fit && word_fits && splits_fit).then_some(frame)
 }
 
-fn get_received(bytes: &Bytes, data: usize, flags: usize) -> Option<Received> {
+/// A frame held, by the places of its bytes. It is not bound by the format.
+fn get_received(bytes: &Bytes, [data, flags, split_votes]: [usize; 3]) -> Option<Received> {
     let ninth = (get_below(bytes, flags, held::LIMIT)? & held::NINTH) as u16;
     Some(Received {
         data: ninth << 8 | bytes[data] as u16,
         fe: get_bit(bytes, flags, held::FE),
         upe: get_bit(bytes, flags, held::UPE),
         dor: get_bit(bytes, flags, held::DOR),
+        split_votes: get_below(bytes, split_votes, held::SPLIT_VOTES_LAST + 1)?,
     })
 }
 

@@ -1,5 +1,5 @@
-//! A model of the ATmega328P's USART0 (asynchronous) and SPI, one clock at a time, written from document 01 alone.
-//! It is compared with the archive by `compare.rs`.
+//! A model of the ATmega328P's USART0 (asynchronous) and SPI, one clock at a time, written from document 01, and M-101
+//! of document 02, alone. It is compared with the archive by `compare.rs`.
 
 mod decode;
 pub mod frame;
@@ -137,5 +137,10 @@ impl Device {
             | (self.usart.udre_requested() as u8) << 1
             | (self.usart.txc_requested() as u8) << 2
             | (self.spi.requested() as u8) << 3
+    }
+
+    /// M-101: how many bits of the oldest frame held had votes that were not unanimous.
+    pub fn split_votes(&self) -> u8 {
+        self.usart.receiver.split_votes()
     }
 }

@@ -1,4 +1,5 @@
-//! The receiver (document 01, 'Receiver'): sampling and voting of RxD, and the buffer of two frames.
+//! The receiver (document 01, 'Receiver'): sampling and voting of RxD, and the buffer of two frames. Each frame has the
+//! count of its split votes (document 02, M-101).
 
 use super::frame::{Format, Parity};
 
@@ -9,6 +10,16 @@ pub struct Received {
     pub fe: bool,
     pub upe: bool,
     pub dor: bool,
+    /// M-101: 'the count of split votes over start, data, parity and stop, 0 to 12'.
+    pub split_votes: u8,
+}
+
+/// M-101: 'The majority decision must answer the level and whether all three samples agreed.' Where they did not, the
+/// vote is split.
+#[derive(Clone, Copy, PartialEq, Debug)]
+pub struct Decision {
+    pub high: bool,
+    pub split: bool,
 }
 
 /// A frame between its first low sample and its stop decision.
@@ -22,6 +33,8 @@ pub struct Receiving {
     pub votes: [bool; 2],
     /// The bits decided so far, shifted in at the top of D bits; those to come are 0.
     pub word: u16,
+    /// Of the bits decided so far, the start bit among them, those with a split vote.
+    pub split_votes: u8,
 }
 
 #[derive(Clone, Copy, PartialEq, Debug)]
@@ -71,6 +84,11 @@ impl Receiver {
         data
     }
 
+    /// M-101: the split votes of the oldest frame held, '0 if empty'.
+    pub fn split_votes(&self) -> u8 {
+        self.oldest.map_or(0, |frame| frame.split_votes)
+    }
+
     /// A tick of the baud clock: one sample of RxD.
     #[inline]
     pub fn tick(&mut self, rxd: bool, format: &Format) {
@@ -85,6 +103,7 @@ impl Receiver {
                     samples: 1,
                     votes: [false; 2],
                     word: 0,
+                    split_votes: 0,
                 });
             }
             Line::Idle { last } => *last = rxd,
@@ -97,27 +116,29 @@ impl Receiver {
         }
     }
 
-    /// The frame under way ends at this sample: a dropped start bit, or the stop bit's last vote.
+    /// The frame under way ends at this sample: a dropped start bit, whose votes belong to no frame, or the stop bit's
+    /// last vote.
     fn end(&mut self, frame: &Receiving, rxd: bool, format: &Format) {
         if frame.bit > 0 {
-            self.store(frame.word, !frame.majority(rxd), format);
+            self.store(frame, !frame.majority(rxd).high, format);
         }
         self.line = Line::Idle { last: rxd };
     }
 
-    /// Puts a completed frame into the buffer, or loses it when both places are full.
-    fn store(&mut self, word: u16, fe: bool, format: &Format) {
+    /// Puts a completed frame into the buffer, or loses it, and its split votes, when both places are full.
+    fn store(&mut self, completed: &Receiving, fe: bool, format: &Format) {
         if self.second.is_some() {
             self.lost = true;
             return;
         }
-        let data = word & format.data_mask();
-        let upe = format.parity != Parity::Off && word != format.word_of(data);
+        let data = completed.word & format.data_mask();
+        let upe = format.parity != Parity::Off && completed.word != format.word_of(data);
         let frame = Received {
             data,
             fe,
             upe,
             dor: self.lost,
+            split_votes: completed.split_votes,
         };
         self.lost = false;
         if self.oldest.is_none() {
@@ -129,11 +150,14 @@ impl Receiver {
 }
 
 impl Receiving {
-    /// The majority of the two votes kept and the last one.
+    /// What the two votes kept and the last one decide.
     #[inline]
-    pub fn majority(&self, last: bool) -> bool {
+    pub fn majority(&self, last: bool) -> Decision {
         let [first, second] = self.votes;
-        first & second | last & (first | second)
+        Decision {
+            high: first & second | last & (first | second),
+            split: first != second || second != last,
+        }
     }
 
     /// One more sample. True when the frame ends with it.
@@ -154,10 +178,11 @@ impl Receiving {
         false
     }
 
-    /// The last vote of a bit. True when the frame ends: a start bit voted high, or the stop bit. Else the votes kept
-    /// have done their work.
+    /// The last vote of a bit; a split one is counted. True when the frame ends: a start bit voted high, or the stop
+    /// bit. Else the votes kept have done their work.
     fn decide(&mut self, rxd: bool, format: &Format) -> bool {
-        let high = self.majority(rxd);
+        let Decision { high, split } = self.majority(rxd);
+        self.split_votes += split as u8;
         if self.bit == 0 && high || self.bit > format.word_bits() {
             return true;
         }
@@ -177,10 +202,13 @@ impl Receiving {
         }
     }
 
+    /// The bits decided so far, the start bit among them.
+    pub fn bits_decided(&self, format: &Format) -> u8 {
+        self.bit + (self.samples >= format.last_vote()) as u8
+    }
+
     /// The bits of the word that have not come in: of D data and parity bits, those that are not decided.
     pub fn bits_to_come(&self, format: &Format) -> u16 {
-        let decided = self.samples >= format.last_vote();
-        let came_in = (self.bit + decided as u8).saturating_sub(1);
-        format.word_mask() >> came_in
+        format.word_mask() >> self.bits_decided(format).saturating_sub(1)
     }
 }

@@ -66,26 +66,29 @@ fn put_receiver(bytes: &mut Bytes, receiver: &Receiver) {
             bytes[layout::FIRST_VOTE] = frame.votes[0] as u8;
             bytes[layout::SECOND_VOTE] = frame.votes[1] as u8;
             put_word(bytes, layout::RECEIVED_WORD, frame.word);
+            bytes[layout::SPLIT_VOTES] = frame.split_votes;
         }
     }
     bytes[layout::FRAMES_HELD] = receiver.oldest.is_some() as u8 + receiver.second.is_some() as u8;
     bytes[layout::FRAME_LOST] = receiver.lost as u8;
-    let (data, flags) = received_bytes(receiver.oldest);
+    let [data, flags, split_votes] = received_bytes(receiver.oldest);
     bytes[layout::OLDEST_DATA] = data;
     bytes[layout::OLDEST_FLAGS] = flags;
-    let (data, flags) = received_bytes(receiver.second);
+    bytes[layout::OLDEST_SPLIT_VOTES] = split_votes;
+    let [data, flags, split_votes] = received_bytes(receiver.second);
     bytes[layout::SECOND_DATA] = data;
     bytes[layout::SECOND_FLAGS] = flags;
+    bytes[layout::SECOND_SPLIT_VOTES] = split_votes;
 }
 
-/// Data bits 7 to 0 of a frame held, and the byte with the ninth and the flags; 0 for none.
-fn received_bytes(frame: Option<Received>) -> (u8, u8) {
-    frame.map_or((0, 0), |frame| {
+/// Data bits 7 to 0 of a frame held, the byte with the ninth and the flags, and its split votes; 0 for none.
+fn received_bytes(frame: Option<Received>) -> [u8; 3] {
+    frame.map_or([0; 3], |frame| {
         let flags = bit(frame.data & 0x100 != 0, held::NINTH)
             | bit(frame.upe, held::UPE)
             | bit(frame.dor, held::DOR)
             | bit(frame.fe, held::FE);
-        (frame.data as u8, flags)
+        [frame.data as u8, flags, frame.split_votes]
     })
 }
 
