@@ -1,7 +1,7 @@
 #!/usr/bin/env bash
 # Counts the instructions of one call by valgrind's callgrind, with the few that it takes to make the call: two numbers
 # of rounds are run, so that what comes before them falls out. Unlike a time, such a count comes out the same again.
-# A word is the archive, of any layout.
+# A word is the archive, of any layout that has the calls.
 set -eu
 archive=${1:+$(realpath "$1")}
 cd "$(dirname "$0")/.."
