@@ -1,23 +1,20 @@
--- What a call of `count` or of `requests` says of the record that it was given. Assumes nothing.
+-- What a call of `count` says of the record that it was given. Assumes nothing.
 use Prim.Native.Nat.{ℕ}
 use mathlib.Core.Bool.{Bool, true, false}
 use mathlib.Core.List.{List}
 use mathlib.Core.Path.{_≡_, refl, sym, ap, subst, _∙_}
 use Rattle.choice.specs.Pick.{pick}
 use Rattle.choice.proofs.Picks.{pick-true, pick-false}
-use Rattle.device.specs.Unit.{outputOf, requestsOf}
+use Rattle.device.specs.Unit.{outputOf}
 use Rattle.device.specs.Counting.{isCounting, countedDevice}
 use Rattle.device.specs.declared.unit.Device.{Device}
 use Rattle.record.specs.Lift.{deviceAt}
 use Rattle.record.specs.Accepts.{isRecord}
 use Rattle.record.specs.Codec.{recordOf, decodeOf}
 use Rattle.record.specs.InPlace.{steppedOf, steppedOver}
-use Rattle.record.specs.Report.{reportOf}
 use Rattle.record.specs.declared.codec.Decoded.the-variants.{Accepted, Refused as NoDevice}
 use Rattle.record.specs.declared.in_place.Stepped.{Stepped}
 use Rattle.record.specs.declared.in_place.Stepped.the-variants.{Refused, Counted, Due}
-use Rattle.record.specs.declared.report.Reported.{Reported}
-use Rattle.record.specs.declared.report.Reported.the-variants.{Refused as NoReport, Value}
 
 -- the record is no device's, or it is that of the device that its bytes say
 accepted-as : (s : List ℕ) → isRecord s ≡ true → decodeOf s ≡ Accepted (deviceAt s)
@@ -64,23 +61,3 @@ module _ (s : List ℕ) (level : ℕ) {r : Stepped} (e : r ≡ steppedOf s level
 
   pub refused-from : r ≡ Refused → (decodeOf s ≡ NoDevice) × (steppedOver s level ≡ s)
   refused-from h = let q = stepped-says s level Refused (sym h ∙ e) in (refused-as s (q .0), q .1)
-
--- a query
-module _ (asked : Device → ℕ) (s : List ℕ) where
-  abbrev Reports : Bool → Reported → Type 0
-  Reports t NoReport = t ≡ false
-  Reports t (Value x) = (t ≡ true) × (x ≡ asked (deviceAt s))
-
-  reports : (t : Bool) → Reports t (pick t (Value (asked (deviceAt s))) NoReport)
-  reports true = (refl, refl)
-  reports false = refl
-
-  reported : (r : Reported) → r ≡ reportOf asked s → Reports (isRecord s) r
-  unfolding reportOf
-  reported r e = subst (Reports (isRecord s)) (sym e) (reports (isRecord s))
-
-  pub value-from : {r : Reported} {x : ℕ} → r ≡ reportOf asked s → r ≡ Value x → (decodeOf s ≡ Accepted (deviceAt s)) × (x ≡ asked (deviceAt s))
-  value-from {r} {x} e h = let q = reported (Value x) (sym h ∙ e) in (accepted-as s (q .0), q .1)
-
-  pub unreported-from : {r : Reported} → r ≡ reportOf asked s → r ≡ NoReport → decodeOf s ≡ NoDevice
-  unreported-from e h = refused-as s (reported NoReport (sym h ∙ e))

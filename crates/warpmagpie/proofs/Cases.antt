@@ -1,10 +1,12 @@
 -- What a call answers and leaves, by what its record decodes to.
 use Prim.Native.Nat.{ℕ, _<_}
+use mathlib.Core.Bool.{Bool, true, false}
 use mathlib.Core.List.{List, [], _∷_}
 use mathlib.Core.Path.{_≡_, refl, sym, ap, ap₂, subst, _∙_}
 use native.Mathlib.Omega.{arith}
 use lib.ListN.{length, getD, set}
 use borrow.Author.Tests.{eq-eqb, ne-eqb, lt-ltb}
+use Rattle.choice.specs.Pick.{pick}
 use Rattle.answer.specs.Number.{numberOf}
 use Rattle.device.specs.Outcome.{answerOf, readAnswerOf, valueOf}
 use Rattle.device.specs.Register.{writeOf, readOf, vectorOf}
@@ -24,6 +26,7 @@ use Rattle.record.specs.declared.codec.Decoded.{Decoded}
 use Rattle.record.specs.declared.codec.Decoded.the-variants.{Accepted, Refused as NoDevice}
 use Rattle.record.specs.Kept.{kept, keptByRead, putBack, putBackRead}
 use Rattle.record.specs.InPlace.{steppedOf, steppedOver}
+use Rattle.record.specs.Accepts.{isRecord}
 use Rattle.record.specs.Report.{reportOf}
 use Rattle.record.specs.declared.in_place.Stepped.{Stepped}
 use Rattle.record.specs.declared.in_place.Stepped.the-variants.{Refused as Uncounted, Counted, Due}
@@ -31,8 +34,8 @@ use Rattle.record.specs.declared.report.Reported.{Reported}
 use Rattle.record.specs.declared.report.Reported.the-variants.{Refused as NoReport, Value}
 use Rattle.record.proofs.Round.{decode-length, stored}
 use Rattle.record.proofs.KeptLaws.{put-back, put-back-read}
-use Rattle.record.proofs.StepLaws.{counted-from, due-from, refused-from, value-from, unreported-from}
-use Rattle.warpmagpie.specs.Calls.{resetOn, resetAnswer, recordAfterReset, writeOn, writeAnswer, recordAfterWrite, readOn, readAnswer, readValue, recordAfterRead, vectorOn, vectorAnswer, recordAfterVector, runOn, outputsOn, runAnswer, recordAfterRun, outputsAfterRun, queryAnswerOn, queryValueOn}
+use Rattle.record.proofs.StepLaws.{counted-from, due-from, refused-from}
+use Rattle.warpmagpie.specs.Calls.{resetOn, resetAnswer, recordAfterReset, writeOn, writeAnswer, recordAfterWrite, readOn, readAnswer, readValue, recordAfterRead, vectorOn, vectorAnswer, recordAfterVector, runOn, outputsOn, runAnswer, recordAfterRun, outputsAfterRun, queryAnswerOn, queryValueOn, toldNumber, toldValue}
 
 -- what a run answers and leaves
 abbrev pub RunIs : List ℕ → List ℕ → List ℕ → ℕ → List ℕ → List ℕ → Type 0
@@ -78,10 +81,6 @@ module _ (s : List ℕ) {t : Decoded} {d : Device} (p : t ≡ decodeOf s) (q : t
       let e : g ≡ readOn (decodeOf s) a = hg ∙ read-on a in
       (hn ∙ ap readAnswerOf e, (hv ∙ ap valueOf e, hs ∙ put-back-read s g has-length ∙ ap (keptByRead s) e))
 
-  query-done : (asked : Device → ℕ) {v : ℕ} → v ≡ asked d → (0 ≡ queryAnswerOn (decodeOf s)) × (v ≡ queryValueOn asked (decodeOf s))
-  unfolding queryAnswerOn queryValueOn
-  query-done asked h = (sym (ap queryAnswerOn accepted), h ∙ sym (ap (queryValueOn asked) accepted))
-
 -- the record that a call took is refused
 module _ (s : List ℕ) {t : Decoded} (p : t ≡ decodeOf s) (q : t ≡ NoDevice) {n : ℕ} (r : n ≡ numberOf Record) where
   abbrev none : decodeOf s ≡ NoDevice
@@ -98,10 +97,6 @@ module _ (s : List ℕ) {t : Decoded} (p : t ≡ decodeOf s) (q : t ≡ NoDevice
   pub read-refused : (a : ℕ) → (n ≡ readAnswer s a) × ((0 ≡ readValue s a) × (s ≡ recordAfterRead s a))
   unfolding readOn
   read-refused a = rw none (r, (refl, refl))
-
-  query-refused : (asked : Device → ℕ) → (n ≡ queryAnswerOn (decodeOf s)) × (0 ≡ queryValueOn asked (decodeOf s))
-  unfolding queryAnswerOn queryValueOn
-  query-refused asked = rw none (r, refl)
 
   pub run-refused : (ls os : List ℕ) → RunIs s ls os n s os
   unfolding runOn outputsOn
@@ -169,10 +164,18 @@ single (l ∷ (m ∷ ls)) h = absurd (omega (arith, h))
 pub run-single : (s ls os : List ℕ) {n : ℕ} {s' os' : List ℕ} → length ls ≡ 1 → RunIs s (getD ls 0 0 ∷ []) os n s' os' → RunIs s ls os n s' os'
 run-single s ls os {n} {s'} {os'} h q = subst (λ (x : List ℕ). RunIs s x os n s' os') (single ls h) q
 
--- a query, by what the record's bytes came to
-module _ (asked : Device → ℕ) (s : List ℕ) {r : Reported} (p : r ≡ reportOf asked s) where
-  pub report-done : {v : ℕ} → r ≡ Value v → (0 ≡ queryAnswerOn (decodeOf s)) × (v ≡ queryValueOn asked (decodeOf s))
-  report-done q = let f = value-from asked s p q in query-done s refl (f .0) asked (f .1)
+-- a query: record and report are tested alike
+pub told : (asked : Device → ℕ) (s : List ℕ)
+    → (toldNumber (reportOf asked s) ≡ queryAnswerOn (decodeOf s)) × (toldValue (reportOf asked s) ≡ queryValueOn asked (decodeOf s))
+unfolding reportOf decodeOf queryAnswerOn queryValueOn
+told asked s = by (isRecord s)
+  where
+    by : (t : Bool)
+        → (toldNumber (pick t (Value (asked (deviceAt s))) NoReport) ≡ queryAnswerOn (pick t (Accepted (deviceAt s)) NoDevice))
+        × (toldValue (pick t (Value (asked (deviceAt s))) NoReport) ≡ queryValueOn asked (pick t (Accepted (deviceAt s)) NoDevice))
+    by true = (refl, refl)
+    by false = (refl, refl)
 
-  pub report-refused : {n : ℕ} → r ≡ NoReport → n ≡ numberOf Record → (n ≡ queryAnswerOn (decodeOf s)) × (0 ≡ queryValueOn asked (decodeOf s))
-  report-refused q hn = query-refused s refl (unreported-from asked s p q) hn asked
+pub told-is : (asked : Device → ℕ) (s : List ℕ) {r : Reported} {n v : ℕ} → r ≡ reportOf asked s → n ≡ toldNumber r → v ≡ toldValue r
+    → (n ≡ queryAnswerOn (decodeOf s)) × (v ≡ queryValueOn asked (decodeOf s))
+told-is asked s p hn hv = (hn ∙ ap toldNumber p ∙ told asked s .0, hv ∙ ap toldValue p ∙ told asked s .1)

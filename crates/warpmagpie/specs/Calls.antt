@@ -20,6 +20,8 @@ use Rattle.record.specs.Codec.{decodeOf}
 use Rattle.record.specs.Kept.{kept, keptByRead}
 use Rattle.record.specs.declared.codec.Decoded.{Decoded}
 use Rattle.record.specs.declared.codec.Decoded.the-variants.{Accepted, Refused as NoDevice}
+use Rattle.record.specs.declared.report.Reported.{Reported}
+use Rattle.record.specs.declared.report.Reported.the-variants.{Value, Refused as NoReport}
 
 -- reset ignores the old bytes and refuses only a wrong length
 unfoldable pub resetOn : List ℕ → Written
@@ -93,6 +95,15 @@ queryAnswerOn NoDevice = numberOf Record
 unfoldable pub queryValueOn : (Device → ℕ) → Decoded → ℕ
 queryValueOn asked (Accepted d) = asked d
 queryValueOn asked NoDevice = 0
+
+-- what the record's bytes came to, as number and value
+abbrev pub toldNumber : Reported → ℕ
+toldNumber (Value x) = 0
+toldNumber NoReport = numberOf Record
+
+abbrev pub toldValue : Reported → ℕ
+toldValue (Value x) = x
+toldValue NoReport = 0
 
 -- the report of the requests
 abbrev pub requestsAnswer : List ℕ → ℕ

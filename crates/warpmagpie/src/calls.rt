@@ -10,7 +10,8 @@ ghost use lib.ListN.{length};
 ghost use Rattle.answer.specs.Number.{numberOf};
 ghost use Rattle.answer.specs.declared.Refusal.the-variants.{Record};
 ghost use Rattle.warpmagpie.specs.Calls.{resetAnswer, recordAfterReset, writeAnswer, recordAfterWrite, readAnswer, readValue, recordAfterRead, vectorAnswer, recordAfterVector, runAnswer, recordAfterRun, outputsAfterRun};
-ghost use Rattle.warpmagpie.specs.Calls.{requestsAnswer, requestsValue, splitVotesAnswer, splitVotesValue};
+ghost use Rattle.warpmagpie.specs.Calls.{toldNumber, toldValue, requestsAnswer, requestsValue};
+ghost use Rattle.warpmagpie.specs.Calls.{splitVotesAnswer, splitVotesValue};
 
 fn no_record() -> u8
     ensures { λ r. ⌜ r ≡ numberOf Record ⌝ }
@@ -126,22 +127,29 @@ pub extern "C" fn warpmagpie_run(image: &mut [u8], levels: &[u8], outputs: &mut 
     many_clocks(image, levels, outputs)
 }
 
+// A query, by what the record's bytes came to.
+fn tell(got: Reported, told: &mut u8) -> u8
+    ensures { λ r. ⌜ r ≡ toldNumber got ⌝ }
+    ensures { λ _. ⌜ now (told .exit) ≡ toldValue got ⌝ }
+{
+    match got {
+        Reported::Value(value) => {
+            *told = value;
+            0
+        }
+        Reported::Refused => {
+            *told = 0;
+            no_record()
+        }
+    }
+}
+
 #[no_mangle]
 pub extern "C" fn warpmagpie_requests(image: &[u8], requests: &mut u8) -> u8
     ensures { λ r. ⌜ r ≡ requestsAnswer (now (image .entry)) ⌝ }
     ensures { λ _. ⌜ now (requests .exit) ≡ requestsValue (now (image .entry)) ⌝ }
 {
-    let got = record::requests(image);
-    match got {
-        Reported::Value(bits) => {
-            *requests = bits;
-            0
-        }
-        Reported::Refused => {
-            *requests = 0;
-            no_record()
-        }
-    }
+    tell(record::requests(image), requests)
 }
 
 #[no_mangle]
@@ -149,15 +157,5 @@ pub extern "C" fn warpmagpie_split_votes(image: &[u8], count: &mut u8) -> u8
     ensures { λ r. ⌜ r ≡ splitVotesAnswer (now (image .entry)) ⌝ }
     ensures { λ _. ⌜ now (count .exit) ≡ splitVotesValue (now (image .entry)) ⌝ }
 {
-    let got = record::split_votes(image);
-    match got {
-        Reported::Value(splits) => {
-            *count = splits;
-            0
-        }
-        Reported::Refused => {
-            *count = 0;
-            no_record()
-        }
-    }
+    tell(record::split_votes(image), count)
 }
