@@ -3,7 +3,6 @@ use mathlib.Core.Bool.{Bool, true, false, Bool·beq}
 use mathlib.Core.Path.{_≡_, refl}
 use Rattle.choice.specs.Pick.{pick}
 use Rattle.frame.specs.Vote.{voteOf}
-use Rattle.frame.specs.declared.vote.Vote.{Vote}
 
 -- where the first two agree they decide, else the third does
 pub vote-picks : (a b c : Bool)

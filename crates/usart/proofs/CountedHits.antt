@@ -1,8 +1,7 @@
 -- The split votes of a frame under way are the bits of it that noise has hit, each from its last vote on.
 use Prim.Native.Nat.{ℕ, _+_, _≤_, _<_}
-use mathlib.Core.Bool.{Bool, true, false, not}
-use mathlib.Core.Path.{_≡_, refl, _∙_}
-use mathlib.Core.Logic.{⊎-elim}
+use mathlib.Core.Bool.{Bool, true, false}
+use mathlib.Core.Path.{_≡_, _∙_}
 use native.Mathlib.Decide.{decLt}
 use native.Mathlib.Omega.{arith}
 use lib.Dec.{eqb}
@@ -10,7 +9,7 @@ use borrow.Author.Tests.{ne-eqb}
 use Rattle.choice.specs.Pick.{digit}
 use Rattle.frame.specs.Format.{firstVote, wordBits}
 use Rattle.frame.specs.declared.format.Format.{Format}
-use Rattle.usart.specs.Sampler.{tallyOf}
+use Rattle.usart.specs.Sampler.{mostVotes, tallyOf}
 use Rattle.usart.specs.Valid.{votedBits}
 use Rattle.usart.specs.declared.sampler.Reception.{Reception}
 use Rattle.usart.specs.declared.sampler.Sampler.the-variants.{Receiving}
@@ -23,7 +22,7 @@ pub record Counts (f : Format) (r : Reception) (e : Hits) : Type 0 where
   pub decided : firstVote f + 2 ≤ r .sample .0 → r .splits ≡ e .bits
 
 -- a split vote for each hit, of which there is one at most
-tally-hit : (n k : ℕ) → k ≤ 1 → n < 12 → tallyOf n (eqb k 0) ≡ n + k
+tally-hit : (n k : ℕ) → k ≤ 1 → n < mostVotes → tallyOf n (eqb k 0) ≡ n + k
 tally-hit n k h l = elim (decLt 0 k) [
   | yes p ↦ let e : eqb k 0 ≡ false = ne-eqb k 0 (λ q. omega arith) in rw e (tally-digit n false l ∙ omega arith)
   | no p ↦ let e : k ≡ 0 = omega arith in rw e (tally-digit n true l)

@@ -7,7 +7,6 @@ use native.Mathlib.Omega.{arith}
 use lib.Dec.{eqb, ltb, leb, lit≤}
 use lib.Pow.{pow-pos}
 use borrow.Author.Tests.{eqb-true, eqb-false, ltb-true, ltb-false, leb-true, lt-ltb, le-ltb}
-use Rattle.choice.specs.Pick.{digit}
 use Rattle.choice.proofs.Digits.{digit-le}
 use Rattle.choice.proofs.Picks.{pick-ind, split, clash}
 use Rattle.frame.specs.Format.{samples, firstVote, wordBits}
@@ -17,7 +16,7 @@ use Rattle.frame.specs.declared.vote.Vote.{Vote}
 use Rattle.frame.proofs.FormatLaws.{samples-half, samples-range, first-vote-range, word-bits-range}
 use Rattle.usart.specs.Sampler.{still, idleOf, castAt, castOf, nextBitOf, withWord, mostVotes, tallyOf, spentOf, decidedOf}
 use Rattle.usart.specs.Sampler.{votedOf, sampledOf, samplerOf}
-use Rattle.usart.specs.Valid.{votedBits, ValidReception, ValidSampler}
+use Rattle.usart.specs.Valid.{ValidReception, ValidSampler}
 use Rattle.usart.specs.declared.sample.Sample.{Sample}
 use Rattle.usart.specs.declared.sampler.Reception.{Reception}
 use Rattle.usart.specs.declared.sampler.Sampler.{Sampler}
@@ -26,7 +25,7 @@ use Rattle.usart.specs.declared.sampler.Outcome.{Outcome}
 use Rattle.usart.specs.declared.sampler.Outcome.the-variants.{Nothing, Complete}
 use Rattle.usart.specs.declared.sampler.Sampled.{Sampled}
 use Rattle.usart.proofs.ShiftLaws.{shift-digit, shift-lt, rest-start, rest-shifted}
-use Rattle.usart.proofs.TallyLaws.{tally-digit, voted-before, voted-after, below-most}
+use Rattle.usart.proofs.TallyLaws.{tally-digit, voted-before, below-most}
 
 -- a count that goes on by one, not to v, stays below v or not
 same-side : (n v : ℕ) → (n + 1 ≡ v → ⊥) → ltb (n + 1) v ≡ ltb n v

@@ -96,7 +96,8 @@ unfoldable pub queryValueOn : (Device → ℕ) → Decoded → ℕ
 queryValueOn asked (Accepted d) = asked d
 queryValueOn asked NoDevice = 0
 
--- what the record's bytes came to, as number and value
+-- a means, no rule: what the record's bytes came to, as number and value; `told` in proofs/Cases.antt says that it is
+-- the query's
 abbrev pub toldNumber : Reported → ℕ
 toldNumber (Value x) = 0
 toldNumber NoReport = numberOf Record
