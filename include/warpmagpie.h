@@ -25,7 +25,7 @@ extern "C" {
 /* Of header, archive and pkg-config file. MAJOR rises where a rig may have to change its code or drop its stored
    records, MINOR where there is more than before, PATCH with any other change. WARPMAGPIE_VERSION is for #if. */
 #define WARPMAGPIE_VERSION_MAJOR 2
-#define WARPMAGPIE_VERSION_MINOR 5
+#define WARPMAGPIE_VERSION_MINOR 6
 #define WARPMAGPIE_VERSION_PATCH 0
 #define WARPMAGPIE_VERSION \
     (WARPMAGPIE_VERSION_MAJOR * 10000 + WARPMAGPIE_VERSION_MINOR * 100 + WARPMAGPIE_VERSION_PATCH)
@@ -157,8 +157,8 @@ uint8_t warpmagpie_reset(uint8_t *record, size_t record_len);
 /* Writes a register. Answers 0, 1, 2, 3, 4 or 5. */
 uint8_t warpmagpie_write(uint8_t *record, size_t record_len, uint16_t address, uint8_t value);
 
-/* Reads a register into *value, with what the read does to the device (UDR0 takes the oldest frame away, SPSR arms,
-   SPDR clears what is armed). Answers 0, 1 or 5; *value is 0 on a refusal. */
+/* Reads a register into *value, with what the read does to the device (UDR0 takes the oldest frame away, and one that
+   waits moves in; SPSR arms, SPDR clears what is armed). Answers 0, 1 or 5; *value is 0 on a refusal. */
 uint8_t warpmagpie_read(uint8_t *record, size_t record_len, uint16_t address, uint8_t *value);
 
 /* Takes an interrupt vector: 0 clears TXC, 1 clears SPIF. Answers 0, 1, 5, or 8 where its request does not stand. */

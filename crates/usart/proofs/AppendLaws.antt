@@ -7,7 +7,7 @@ use native.Mathlib.Omega.{arith}
 use lib.ListN.{length}
 use Rattle.usart.specs.Unit.{clockOf, outputOf}
 use Rattle.usart.specs.Event.{Event, clock, write, read, vector, nextOf, finalOf, OnlyData, levelsOf}
-use Rattle.usart.specs.Receiving.{Free, readsOf, entriesOf}
+use Rattle.usart.specs.Receiving.{NoneWaits, readsOf, arrivalsOf}
 use Rattle.usart.specs.Sending.{takenOf, outputsOf}
 use Rattle.usart.specs.declared.unit.Usart.{Usart}
 
@@ -29,12 +29,12 @@ only-append u (write r v ∷ es) fs h k = (h .0, only-append (nextOf u (write r 
 only-append u (read r ∷ es) fs h k = only-append (nextOf u (read r)) es fs h k
 only-append u (vector ∷ es) fs h k = only-append (nextOf u vector) es fs h k
 
-pub free-append : (u : Usart) (es fs : List Event) → Free u es → Free (finalOf u es) fs → Free u (es ++ fs)
-free-append u [] fs h k = k
-free-append u (clock rxd ∷ es) fs h k = (h .0, free-append (clockOf u rxd) es fs (h .1) k)
-free-append u (write r v ∷ es) fs h k = free-append (nextOf u (write r v)) es fs h k
-free-append u (read r ∷ es) fs h k = free-append (nextOf u (read r)) es fs h k
-free-append u (vector ∷ es) fs h k = free-append (nextOf u vector) es fs h k
+pub none-waits-append : (u : Usart) (es fs : List Event) → NoneWaits u es → NoneWaits (finalOf u es) fs → NoneWaits u (es ++ fs)
+none-waits-append u [] fs h k = k
+none-waits-append u (clock rxd ∷ es) fs h k = (h .0, none-waits-append (clockOf u rxd) es fs (h .1) k)
+none-waits-append u (write r v ∷ es) fs h k = none-waits-append (nextOf u (write r v)) es fs h k
+none-waits-append u (read r ∷ es) fs h k = none-waits-append (nextOf u (read r)) es fs h k
+none-waits-append u (vector ∷ es) fs h k = none-waits-append (nextOf u vector) es fs h k
 
 pub reads-append : (u : Usart) (es fs : List Event) → readsOf u (es ++ fs) ≡ readsOf u es ++ readsOf (finalOf u es) fs
 reads-append u [] fs = refl
@@ -48,15 +48,15 @@ outputs-append u (read r ∷ es) fs = outputs-append (nextOf u (read r)) es fs
 outputs-append u (vector ∷ es) fs = outputs-append (nextOf u vector) es fs
 
 -- the second part begins after as many clocks as the first has
-pub entries-append : (j : ℕ) (u : Usart) (es fs : List Event)
-    → entriesOf j u (es ++ fs) ≡ entriesOf j u es ++ entriesOf (j + length (levelsOf es)) (finalOf u es) fs
-entries-append j u [] fs = ap (λ (n : ℕ). entriesOf n u fs) (omega arith)
-entries-append j u (clock rxd ∷ es) fs =
+pub arrivals-append : (j : ℕ) (u : Usart) (es fs : List Event)
+    → arrivalsOf j u (es ++ fs) ≡ arrivalsOf j u es ++ arrivalsOf (j + length (levelsOf es)) (finalOf u es) fs
+arrivals-append j u [] fs = ap (λ (n : ℕ). arrivalsOf n u fs) (omega arith)
+arrivals-append j u (clock rxd ∷ es) fs =
     let e : j + suc (length (levelsOf es)) ≡ suc j + length (levelsOf es) = omega arith in
-    rw (entries-append (suc j) (clockOf u rxd) es fs, append-assoc, e)
-entries-append j u (write r v ∷ es) fs = entries-append j (nextOf u (write r v)) es fs
-entries-append j u (read r ∷ es) fs = entries-append j (nextOf u (read r)) es fs
-entries-append j u (vector ∷ es) fs = entries-append j (nextOf u vector) es fs
+    rw (arrivals-append (suc j) (clockOf u rxd) es fs, append-assoc, e)
+arrivals-append j u (write r v ∷ es) fs = arrivals-append j (nextOf u (write r v)) es fs
+arrivals-append j u (read r ∷ es) fs = arrivals-append j (nextOf u (read r)) es fs
+arrivals-append j u (vector ∷ es) fs = arrivals-append j (nextOf u vector) es fs
 
 pub taken-append : (j : ℕ) (u : Usart) (es fs : List Event)
     → takenOf j u (es ++ fs) ≡ takenOf j u es ++ takenOf (j + length (outputsOf u es)) (finalOf u es) fs

@@ -1,23 +1,23 @@
 -- One clock of the unit, by the baud counter: the receiver's part.
-use mathlib.Core.Path.{_≡_, refl}
+use mathlib.Core.Path.{_≡_, refl, ap}
 use mathlib.Core.Bool.{Bool, true, false}
 use mathlib.Core.List.{[], _∷_, _++_}
-use Prim.Native.Nat.{ℕ, suc, _-_, _<_}
+use Prim.Native.Nat.{ℕ, suc, _-_}
 use native.Mathlib.Omega.{arith}
 use lib.ListN.{length}
 use borrow.Author.Tests.{eq-eqb, ne-eqb}
 use Rattle.frame.specs.declared.format.Format.{Format}
-use Rattle.usart.specs.Baud.{leftOf, loadedBaud}
+use Rattle.usart.specs.Baud.{leftOf}
 use Rattle.usart.specs.Sender.{senderOf}
 use Rattle.usart.specs.Sampler.{samplerOf}
-use Rattle.usart.specs.Queue.{heldIn, markedOf, storedIn}
+use Rattle.usart.specs.Queue.{waitingIn, keptIn, markedOf, storedIn, startedOf}
 use Rattle.usart.specs.Receiver.{receiverOf, listenedOf}
 use Rattle.usart.specs.Unit.{clockOf}
-use Rattle.usart.specs.Write.{withBaud}
 use Rattle.usart.specs.Receiving.{outcomeAt}
 use Rattle.usart.specs.declared.queue.Frame.{Frame}
 use Rattle.usart.specs.declared.queue.Places.{Places}
-use Rattle.usart.specs.declared.queue.Places.the-variants.{Empty, One, Two}
+use Rattle.usart.specs.declared.queue.Places.the-variants.{Empty, One, Two, Three}
+use Rattle.usart.specs.declared.queue.Queue.{Queue}
 use Rattle.usart.specs.declared.baud.Baud.{Baud}
 use Rattle.usart.specs.declared.sender.Sender.{Sender}
 use Rattle.usart.specs.declared.receiver.Receiver.{Receiver}
@@ -30,13 +30,17 @@ with u b s r = record { baud = b; format = u .format; control = u .control; send
 pub same-parts : (u : Usart) {a b : Baud} {s t : Sender} {q r : Receiver} → a ≡ b → s ≡ t → q ≡ r → with u a s q ≡ with u b t r
 same-parts u p q r = cc
 
--- the unit after a tick of its baud clock
-abbrev pub tickedAs : Usart → Receiver → Usart
-tickedAs u r = with u (loadedBaud (u .baud .ubrr)) (senderOf (u .format) (u .sender)) r
+-- the unit after a clock, with k left to the next tick
+abbrev pub clockedAs : Usart → ℕ → Sender → Receiver → Usart
+clockedAs u k s r = with u (record { ubrr = u .baud .ubrr; left = record { 0 = k } }) s r
 
--- and after a clock with no tick, with k left
+-- which was a tick of its baud clock
+abbrev pub tickedAs : Usart → Receiver → Usart
+tickedAs u r = clockedAs u (u .baud .ubrr) (senderOf (u .format) (u .sender)) r
+
+-- or none
 abbrev pub waitedAs : Usart → ℕ → Usart
-waitedAs u k = withBaud u (record { ubrr = u .baud .ubrr; left = record { 0 = k } })
+waitedAs u k = clockedAs u k (u .sender) (u .receiver)
 
 pub clock-tick : (u : Usart) (l : Bool) → u .baud .left .0 ≡ 0 → clockOf u l ≡ tickedAs u (listenedOf (u .control .rxen) (u .format) (u .receiver) l)
 unfolding clockOf leftOf
@@ -56,9 +60,23 @@ pub outcome-tick : (u : Usart) (l : Bool) → u .baud .left .0 ≡ 0 → u .cont
     → outcomeAt u l ≡ samplerOf (u .format) (u .receiver .sampler) l .outcome
 outcome-tick u l e r = rw (eq-eqb (u .baud .left .0) 0 e, r)
 
--- a frame that finds a place free is held last
-pub stored-held : (p : Places) (lost : Bool) (x : Frame) → length (heldIn p) < 2
-    → (heldIn (storedIn p lost x .places) ≡ heldIn p ++ (markedOf x lost ∷ [])) × (storedIn p lost x .lost ≡ false)
-stored-held Empty lost x h = (refl, refl)
-stored-held (One a) lost x h = (refl, refl)
-stored-held (Two a b) lost x h = absurd (omega arith)
+pub one-waits : (c : Frame) → c ∷ [] ≡ [] → ⊥
+one-waits c h = omega (arith, ap length h)
+
+-- a frame that completes while none waits is kept, last
+pub stored-kept : (p : Places) (lost : Bool) (x : Frame) → waitingIn p ≡ []
+    → (keptIn (storedIn p lost x .places) ≡ keptIn p ++ (markedOf x lost ∷ [])) × (storedIn p lost x .lost ≡ false)
+stored-kept Empty lost x h = (refl, refl)
+stored-kept (One a) lost x h = (refl, refl)
+stored-kept (Two a b) lost x h = (refl, refl)
+stored-kept (Three a b c) lost x h = absurd (one-waits c h)
+
+-- a start that is accepted while none waits changes nothing
+pub started-same : (q : Queue) → waitingIn (q .places) ≡ [] → startedOf q ≡ q
+started-same q = by (q .places) refl
+  where
+    by : (p : Places) → q .places ≡ p → waitingIn p ≡ [] → startedOf q ≡ q
+    by Empty e h = rw e
+    by (One a) e h = rw e
+    by (Two a b) e h = rw e
+    by (Three a b c) e h = absurd (one-waits c h)

@@ -1,18 +1,19 @@
--- What a closed list shows, what it drives, and the free places in it, found by computing: tests, and what they say.
+-- What a closed list shows, what it drives, and that none waits in it when a start is accepted, found by computing:
+-- tests, and what they say.
 use mathlib.Core.Path.{_≡_, refl, sym}
 use mathlib.Core.Bool.{Bool, true, false}
 use mathlib.Core.List.{List, [], _∷_}
-use Prim.Native.Nat.{ℕ, suc, _+_, _<_}
-use lib.Dec.{eqb, ltb}
-use lib.ListN.{length}
-use borrow.Author.Tests.{eqb-true, ltb-true}
+use Prim.Native.Nat.{ℕ, suc, _+_}
+use lib.Dec.{eqb}
+use borrow.Author.Tests.{eqb-true}
 use Rattle.choice.specs.Pick.{pick, digit}
-use Rattle.choice.proofs.Picks.{both}
+use Rattle.choice.proofs.Picks.{both, clash}
 use Rattle.usart.specs.Unit.{clockOf}
 use Rattle.usart.specs.Event.{Event, clock, write, read, vector, nextOf}
 use Rattle.usart.specs.Line.{Shows}
-use Rattle.usart.specs.Receiving.{heldBy, isComplete, outcomeAt, Free}
+use Rattle.usart.specs.Receiving.{waitingBy, isStart, outcomeAt, NoneWaits}
 use Rattle.usart.specs.Sending.{Drives}
+use Rattle.usart.specs.declared.queue.Frame.{Frame}
 use Rattle.usart.specs.declared.unit.Usart.{Usart}
 
 unfoldable pub bool-eqb : Bool → Bool → Bool
@@ -46,25 +47,34 @@ driven-drives w j [] e = tt
 driven-drives w j (o ∷ os) e =
     let b = both (eqb o (digit (w j) + 16)) (driven w (suc j) os) e in (eqb-true o (digit (w j) + 16) (b .0), driven-drives w (suc j) os (b .1))
 
+unfoldable pub none : List Frame → Bool
+none [] = true
+none (a ∷ bs) = false
+
+none-nil : (bs : List Frame) → none bs ≡ true → bs ≡ []
+unfolding none
+none-nil [] e = refl
+none-nil (a ∷ bs) e = clash e refl
+
 unfoldable pub room : Usart → Bool → Bool
-room u l = pick (isComplete (outcomeAt u l)) (ltb (length (heldBy u)) 2) true
+room u l = pick (isStart (outcomeAt u l)) (none (waitingBy u)) true
 
-unfoldable pub free : Usart → List Event → Bool
-free u [] = true
-free u (clock l ∷ es) = pick (room u l) (free (clockOf u l) es) false
-free u (write r v ∷ es) = free (nextOf u (write r v)) es
-free u (read r ∷ es) = free (nextOf u (read r)) es
-free u (vector ∷ es) = free (nextOf u vector) es
-
-room-free : (u : Usart) (l : Bool) → room u l ≡ true → isComplete (outcomeAt u l) ≡ true → length (heldBy u) < 2
+room-none : (u : Usart) (l : Bool) → room u l ≡ true → isStart (outcomeAt u l) ≡ true → waitingBy u ≡ []
 unfolding room
-room-free u l e c = ltb-true (length (heldBy u)) 2 (rw c at e)
+room-none u l e c = none-nil (waitingBy u) (rw c at e)
 
-pub free-free : (u : Usart) (es : List Event) → free u es ≡ true → Free u es
-unfolding free
-free-free u [] e = tt
-free-free u (clock l ∷ es) e =
-    let b = both (room u l) (free (clockOf u l) es) e in (room-free u l (b .0), free-free (clockOf u l) es (b .1))
-free-free u (write r v ∷ es) e = free-free (nextOf u (write r v)) es e
-free-free u (read r ∷ es) e = free-free (nextOf u (read r)) es e
-free-free u (vector ∷ es) e = free-free (nextOf u vector) es e
+unfoldable pub noneWaits : Usart → List Event → Bool
+noneWaits u [] = true
+noneWaits u (clock l ∷ es) = pick (room u l) (noneWaits (clockOf u l) es) false
+noneWaits u (write r v ∷ es) = noneWaits (nextOf u (write r v)) es
+noneWaits u (read r ∷ es) = noneWaits (nextOf u (read r)) es
+noneWaits u (vector ∷ es) = noneWaits (nextOf u vector) es
+
+pub none-waits : (u : Usart) (es : List Event) → noneWaits u es ≡ true → NoneWaits u es
+unfolding noneWaits
+none-waits u [] e = tt
+none-waits u (clock l ∷ es) e =
+    let b = both (room u l) (noneWaits (clockOf u l) es) e in (room-none u l (b .0), none-waits (clockOf u l) es (b .1))
+none-waits u (write r v ∷ es) e = none-waits (nextOf u (write r v)) es e
+none-waits u (read r ∷ es) e = none-waits (nextOf u (read r)) es e
+none-waits u (vector ∷ es) e = none-waits (nextOf u vector) es e

@@ -27,9 +27,11 @@ listening = record {
   receiver = record { sampler = Idle true; queue = record { places = Empty; lost = false } };
 }
 
--- two frames; a bit of the sender is 8.13 clocks
+-- five frames, one after the other; a bit of the sender is 8.13 clocks
 unfoldable pub frames : List Sent
-frames = record { start = 3; «data» = 21 } ∷ record { start = 70; «data» = 10 } ∷ []
+frames =
+    record { start = 3; «data» = 21 } ∷ record { start = 70; «data» = 10 } ∷ record { start = 137; «data» = 31 }
+    ∷ record { start = 204; «data» = 0 } ∷ record { start = 271; «data» = 9 } ∷ []
 
 unfoldable pub level : ℕ → Bool
 level j = lineLevel (listening .format) 813 100 frames j
@@ -38,11 +40,12 @@ unfoldable pub run : ℕ → ℕ → List Event → List Event
 run j zero es = es
 run j (suc n) es = clock (level j) ∷ run (suc j) n es
 
--- in mid-frame: a refused baud setting, a refused mode, a look at UCSR0A, a byte to send, a vector without request; the
--- first frame is read while the second is on the line, before it completes
+-- in mid-frame: a refused baud setting, a refused mode, a look at UCSR0A, a byte to send, a vector without request. The
+-- first frame is read when the third waits, in the start bit of the fourth, one clock before it is accepted; the second
+-- while the fourth is on the line. The fifth still waits at the end
 unfoldable pub received : List Event
 received =
-    run 0 20 (write Ubrr0l 7 ∷ write Ucsr0c 192 ∷ read Ucsr0a ∷ write Udr0 85 ∷ vector ∷ read Udr0 ∷ run 20 60 (read Udr0 ∷ run 80 60 []))
+    run 0 20 (write Ubrr0l 7 ∷ write Ucsr0c 192 ∷ read Ucsr0a ∷ write Udr0 85 ∷ vector ∷ read Udr0 ∷ run 20 189 (read Udr0 ∷ run 209 21 (read Udr0 ∷ run 230 110 [])))
 
 -- noise turns over one vote of each of five bits: of the start, a data, the parity and the stop bit of the first frame,
 -- and of the start bit of the second. A bit's votes are samples 4, 5 and 6, the first sample being the start clock's
@@ -57,7 +60,7 @@ unfoldable pub noisyRun : ℕ → ℕ → List Event
 noisyRun j zero = []
 noisyRun j (suc n) = clock (pick (isHit j hitClocks) (not (level j)) (level j)) ∷ noisyRun (suc j) n
 
--- neither frame is read
+-- of two frames, neither is read
 unfoldable pub noisy : List Event
 noisy = noisyRun 0 140
 

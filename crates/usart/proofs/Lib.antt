@@ -8,6 +8,7 @@ pub mod LineLaws
 pub mod Noise
 pub mod ShiftLaws
 pub mod TallyLaws
+pub mod WaitingLaws
 pub mod CountedHits
 pub mod OneTick
 pub mod ReadLaws

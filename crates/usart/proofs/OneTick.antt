@@ -28,7 +28,7 @@ use Rattle.usart.specs.declared.sampler.Reception.{Reception}
 use Rattle.usart.specs.declared.sampler.Sampler.{Sampler}
 use Rattle.usart.specs.declared.sampler.Sampler.the-variants.{Idle, Receiving}
 use Rattle.usart.specs.declared.sampler.Outcome.{Outcome}
-use Rattle.usart.specs.declared.sampler.Outcome.the-variants.{Nothing, Complete}
+use Rattle.usart.specs.declared.sampler.Outcome.the-variants.{Nothing, Started, Complete}
 use Rattle.usart.specs.declared.sampler.Sampled.{Sampled}
 use Rattle.usart.proofs.ShiftLaws.{shift-digit}
 use Rattle.usart.proofs.Rates.{Rates, tick-short, vote-low, vote-high, vote-bit}
@@ -93,6 +93,7 @@ pub record Completes (f : Format) (P Q j : ℕ) (s : Sent) (word : ℕ) (stop : 
 
 abbrev pub GoodFor : Format → ℕ → ℕ → ℕ → ℕ → ℕ → Sampler → Hits → List Sent → Outcome → Type 0
 GoodFor f M P Q j k p e ss Nothing = Inv f M (suc j) k p e ss
+GoodFor f M P Q j k p e ss Started = Inv f M (suc j) k p e ss
 GoodFor f M P Q j k p e [] (Complete word stop splits) = ⊥
 GoodFor f M P Q j k p e (s ∷ ss) (Complete word stop splits) =
     Completes f P Q j s word stop splits (e .bits) × Inv f M (suc j) k p e ss

@@ -1,7 +1,7 @@
 -- What a read changes, and what the registers' bits say of the oldest frame.
 use mathlib.Core.Path.{_≡_, refl, _∙_, ap}
 use mathlib.Core.Bool.{Bool, true, false, not}
-use mathlib.Core.List.{[], _∷_, _++_, map}
+use mathlib.Core.List.{List, [], _∷_, _++_, map}
 use Prim.Native.Nat.{ℕ, _+_, _*_, _/_}
 use native.Mathlib.Omega.{arith}
 use lib.Dec.{eqb}
@@ -10,12 +10,13 @@ use Rattle.choice.specs.Pick.{pick, digit}
 use Rattle.choice.proofs.Digits.{digit-le, digit-odd}
 use Rattle.choice.proofs.Picks.{clash}
 use Rattle.usart.specs.Sender.{isVacant}
-use Rattle.usart.specs.Queue.{heldIn, isEmpty, oldestOf, takenFrom}
+use Rattle.usart.specs.Queue.{keptIn, isEmpty, oldestOf, takenFrom}
 use Rattle.usart.specs.Read.{ucsr0a, ucsr0b, oldest, poppedOf, readOf}
 use Rattle.usart.specs.Event.{read, isUdr0}
-use Rattle.usart.specs.Receiving.{seenBy, seenIn, takenBy}
+use Rattle.usart.specs.Receiving.{Seen, seenBy, seenIn, takenBy}
+use Rattle.usart.specs.declared.queue.Frame.{Frame}
 use Rattle.usart.specs.declared.queue.Places.{Places}
-use Rattle.usart.specs.declared.queue.Places.the-variants.{Empty, One, Two}
+use Rattle.usart.specs.declared.queue.Places.the-variants.{Empty, One, Two, Three}
 use Rattle.usart.specs.declared.unit.Usart.{Usart}
 use Rattle.usart.specs.declared.write.Register.{Register}
 use Rattle.usart.specs.declared.write.Register.the-variants.{Ucsr0a, Ucsr0b, Ucsr0c, Ubrr0l, Ubrr0h, Udr0}
@@ -84,17 +85,20 @@ module _ (u : Usart) where
   seen-oldest = rw (status .bit4, status .bit3, status .bit2, rxb8-bit)
 
   -- a read takes the oldest frame and leaves the others
-  pub taken-held : takenBy u (read Udr0) ++ map seenIn (heldIn (takenFrom (u .receiver .queue .places))) ≡ map seenIn (heldIn (u .receiver .queue .places))
-  taken-held = by (u .receiver .queue .places) refl
+  pub taken-kept : takenBy u (read Udr0) ++ map seenIn (keptIn (takenFrom (u .receiver .queue .places))) ≡ map seenIn (keptIn (u .receiver .queue .places))
+  taken-kept = by (u .receiver .queue .places) refl
     where
+      -- there is an oldest one, x
+      one : (p : Places) (x : Frame) → u .receiver .queue .places ≡ p → isEmpty p ≡ false → oldestOf p ≡ x
+          → pick (eqb (bitAt (ucsr0a u) 7) 1) (seenBy u ∷ []) [] ≡ seenIn x ∷ []
+      one p x e h o =
+          let b : bitAt (ucsr0a u) 7 ≡ 1 = status .bit7 ∙ ap (λ (q : Places). digit (not (isEmpty q))) e ∙ ap (λ (t : Bool). digit (not t)) h in
+          let s : seenBy u ≡ seenIn x = seen-oldest ∙ ap (λ (q : Places). seenIn (oldestOf q)) e ∙ ap seenIn o in
+          rw (b, s)
+
       by : (p : Places) → u .receiver .queue .places ≡ p
-          → pick (eqb (bitAt (ucsr0a u) 7) 1) (seenBy u ∷ []) [] ++ map seenIn (heldIn (takenFrom p)) ≡ map seenIn (heldIn p)
+          → pick (eqb (bitAt (ucsr0a u) 7) 1) (seenBy u ∷ []) [] ++ map seenIn (keptIn (takenFrom p)) ≡ map seenIn (keptIn p)
       by Empty e = let b : bitAt (ucsr0a u) 7 ≡ 0 = status .bit7 ∙ ap (λ (q : Places). digit (not (isEmpty q))) e in rw b
-      by (One x) e =
-          let b : bitAt (ucsr0a u) 7 ≡ 1 = status .bit7 ∙ ap (λ (q : Places). digit (not (isEmpty q))) e in
-          let s : seenBy u ≡ seenIn x = seen-oldest ∙ ap (λ (q : Places). seenIn (oldestOf q)) e in
-          rw (b, s)
-      by (Two x y) e =
-          let b : bitAt (ucsr0a u) 7 ≡ 1 = status .bit7 ∙ ap (λ (q : Places). digit (not (isEmpty q))) e in
-          let s : seenBy u ≡ seenIn x = seen-oldest ∙ ap (λ (q : Places). seenIn (oldestOf q)) e in
-          rw (b, s)
+      by (One x) e = ap (λ (t : List Seen). t ++ []) (one (One x) x e refl refl)
+      by (Two x y) e = ap (λ (t : List Seen). t ++ (seenIn y ∷ [])) (one (Two x y) x e refl refl)
+      by (Three x y z) e = ap (λ (t : List Seen). t ++ (seenIn y ∷ seenIn z ∷ [])) (one (Three x y z) x e refl refl)

@@ -22,7 +22,7 @@ use Rattle.usart.specs.declared.sampler.Reception.{Reception}
 use Rattle.usart.specs.declared.sampler.Sampler.{Sampler}
 use Rattle.usart.specs.declared.sampler.Sampler.the-variants.{Idle, Receiving}
 use Rattle.usart.specs.declared.sampler.Outcome.{Outcome}
-use Rattle.usart.specs.declared.sampler.Outcome.the-variants.{Nothing, Complete}
+use Rattle.usart.specs.declared.sampler.Outcome.the-variants.{Nothing, Started, Complete}
 use Rattle.usart.specs.declared.sampler.Sampled.{Sampled}
 use Rattle.usart.proofs.ShiftLaws.{shift-digit, shift-lt, rest-start, rest-shifted}
 use Rattle.usart.proofs.TallyLaws.{tally-digit, voted-before, below-most}
@@ -36,6 +36,7 @@ same-side n v o = split (ltb n v)
 -- the range of what a sample leads to
 abbrev pub ValidOutcome : Outcome → Type 0
 ValidOutcome Nothing = Unit {0}
+ValidOutcome Started = Unit {0}
 ValidOutcome (Complete word stop splits) = splits ≤ mostVotes
 
 pub record ValidSampled (f : Format) (o : Sampled) : Type 0 where
@@ -156,7 +157,7 @@ module _ (f : Format) where
           (λ e. pick-ind F m _ _ (λ g. valid-still _ tt)
           (λ g.
           let h : r .bit ≤ D = omega (arith, eqb-true (r .bit) 0 e) in
-          valid-still _ (valid-spent c (r .word) few h (v .word) (rest-start D (r .bit) (r .word) h low))))
+          record { sampler = valid-spent c (r .word) few h (v .word) (rest-start D (r .bit) (r .word) h low); outcome = tt }))
           (λ e. pick-ind F (leb (r .bit) D) _ _
           (λ g.
           let h : r .bit ≤ D = leb-true (r .bit) D g in

@@ -19,7 +19,7 @@ use Rattle.usart.specs.Baud.{ticks, leftOf, baudOf}
 use Rattle.usart.specs.Sender.{isVacant, isResting, bufferOf, acknowledgedOf, movedFrom, steppedOf, shiftedOn}
 use Rattle.usart.specs.Sender.{senderOf}
 use Rattle.usart.specs.Sampler.{isReceiving, samplerOf}
-use Rattle.usart.specs.Queue.{markedOf, storedIn, takenFrom}
+use Rattle.usart.specs.Queue.{markedOf, storedIn, startedFrom, startedOf, takenFrom}
 use Rattle.usart.specs.Receiver.{frameOf, putOf, listenedOf, stopped, enabledOf}
 use Rattle.usart.specs.Unit.{resetUsart, isBusy, clockOf, txcRequested}
 use Rattle.usart.specs.Settings.{settingsOf}
@@ -27,7 +27,7 @@ use Rattle.usart.specs.Read.{readOf}
 use Rattle.usart.specs.Write.{withSender, formattedOf, txcCleared, timedOf, transmittedOf, writeOf, vectorOf}
 use Rattle.usart.specs.Event.{settled}
 use Rattle.usart.specs.Valid.{ValidBaud, ValidBuffer, ValidTransmission, ValidShifter, ValidSender}
-use Rattle.usart.specs.Valid.{ValidSampler, ValidFrame, ValidPlaces, ValidReceiver, isInShift, Valid}
+use Rattle.usart.specs.Valid.{ValidSampler, ValidFrame, ValidPlaces, ValidWaiting, ValidReceiver, isInShift, Valid}
 use Rattle.usart.specs.declared.baud.Clocks.{Clocks}
 use Rattle.usart.specs.declared.baud.Baud.{Baud}
 use Rattle.usart.specs.declared.sender.Buffer.{Buffer}
@@ -39,10 +39,10 @@ use Rattle.usart.specs.declared.sender.Sender.{Sender}
 use Rattle.usart.specs.declared.sampler.Sampler.{Sampler}
 use Rattle.usart.specs.declared.sampler.Sampler.the-variants.{Idle, Receiving}
 use Rattle.usart.specs.declared.sampler.Outcome.{Outcome}
-use Rattle.usart.specs.declared.sampler.Outcome.the-variants.{Nothing, Complete}
+use Rattle.usart.specs.declared.sampler.Outcome.the-variants.{Nothing, Started, Complete}
 use Rattle.usart.specs.declared.queue.Frame.{Frame}
 use Rattle.usart.specs.declared.queue.Places.{Places}
-use Rattle.usart.specs.declared.queue.Places.the-variants.{Empty, One, Two}
+use Rattle.usart.specs.declared.queue.Places.the-variants.{Empty, One, Two, Three}
 use Rattle.usart.specs.declared.queue.Queue.{Queue}
 use Rattle.usart.specs.declared.receiver.Receiver.{Receiver}
 use Rattle.usart.specs.declared.unit.Usart.{Usart}
@@ -50,6 +50,7 @@ use Rattle.usart.specs.declared.write.Register.{Register}
 use Rattle.usart.specs.declared.write.Written.{Written}
 use Rattle.usart.proofs.ReadLaws.{each-read}
 use Rattle.usart.proofs.SamplerLaws.{ValidOutcome, valid-sampler}
+use Rattle.usart.proofs.WaitingLaws.{WaitingFor, none-waiting, idle-waiting, started-none, taken-none, waiting-tick}
 use Rattle.usart.proofs.WriteLaws.{Before, inA, inB, inC, Timing, inL, inH, Writes, each-write}
 
 valid-baud : (b : Baud) → ValidBaud b → ValidBaud (baudOf b)
@@ -96,12 +97,28 @@ module _ (f : Format) where
   valid-stored : (p : Places) (lost : Bool) (x : Frame) → ValidPlaces p → ValidFrame x → ValidPlaces (storedIn p lost x .places)
   valid-stored Empty lost x v h = valid-marked x lost h
   valid-stored (One a) lost x v h = (v, valid-marked x lost h)
-  valid-stored (Two a b) lost x v h = v
+  valid-stored (Two a b) lost x v h = (v .0, (v .1, valid-marked x lost h))
+  valid-stored (Three a b c) lost x v h = (v .0, (v .1 .0, valid-marked x true h))
+
+  valid-started : (q : Queue) → ValidPlaces (q .places) → ValidPlaces (startedOf q .places)
+  valid-started q v = by (q .places) refl
+    where
+      by : (p : Places) → q .places ≡ p → ValidPlaces (startedFrom p q .places)
+      by Empty e = v
+      by (One a) e = v
+      by (Two a b) e = v
+      by (Three a b c) e = let w : ValidPlaces (Three a b c) = rw e at v in (w .0, w .1 .0)
 
   valid-put : (q : Queue) (o : Outcome) → ValidPlaces (q .places) → ValidOutcome o → ValidPlaces (putOf f q o .places)
   valid-put q Nothing v w = v
+  valid-put q Started v w = valid-started q v
   valid-put q (Complete word stop splits) v w =
       valid-stored (q .places) (q .lost) (frameOf f word stop splits) v (record { «data» = data-lt word; splits = w })
+
+  valid-waiting : (q : Queue) (s : Sampler) (o : Outcome) → WaitingFor f s (q .places) o → ValidWaiting f s (putOf f q o .places)
+  valid-waiting q s Nothing w = w
+  valid-waiting q s Started w = none-waiting f s (startedOf q .places) (started-none q)
+  valid-waiting q s (Complete word stop splits) w = w .1 _
 
   pub valid-listened : (rxen : Bool) (r : Receiver) (rxd : Bool) → ValidReceiver f r → ValidReceiver f (listenedOf rxen f r rxd)
   unfolding listenedOf
@@ -109,7 +126,12 @@ module _ (f : Format) where
       pick-ind (ValidReceiver f) rxen _ _
       (λ e.
       let s = valid-sampler f (r .sampler) rxd (v .sampler) in
-      record { sampler = s .sampler; places = valid-put (r .queue) (samplerOf f (r .sampler) rxd .outcome) (v .places) (s .outcome) })
+      let o : Outcome = samplerOf f (r .sampler) rxd .outcome in
+      record {
+        sampler = s .sampler;
+        places = valid-put (r .queue) o (v .places) (s .outcome);
+        waiting = valid-waiting (r .queue) _ o (waiting-tick f (r .queue .places) (r .sampler) rxd (v .waiting));
+      })
       (λ e. v)
 
 pub valid-clock : (u : Usart) (rxd : Bool) → Valid u → Valid (clockOf u rxd)
@@ -135,13 +157,18 @@ valid-taken : (p : Places) → ValidPlaces p → ValidPlaces (takenFrom p)
 valid-taken Empty v = tt
 valid-taken (One a) v = tt
 valid-taken (Two a b) v = v .1
+valid-taken (Three a b c) v = v .1
 
 pub valid-read : (u : Usart) (r : Register) → Valid u → Valid (readOf u r .usart)
 valid-read u r v = each-read Valid u r (λ _. v)
     (λ _. record {
       baud = v .baud;
       sender = v .sender;
-      receiver = record { sampler = v .receiver .sampler; places = valid-taken (u .receiver .queue .places) (v .receiver .places) };
+      receiver = record {
+        sampler = v .receiver .sampler;
+        places = valid-taken (u .receiver .queue .places) (v .receiver .places);
+        waiting = none-waiting (u .format) (u .receiver .sampler) (takenFrom (u .receiver .queue .places)) (taken-none (u .receiver .queue .places));
+      };
       disabled = λ d. rw (v .disabled d);
       counter = v .counter;
     })
@@ -150,7 +177,7 @@ pub valid-reset : Valid resetUsart
 valid-reset = record {
   baud = record { ubrr = lit< tt; left = lit< tt };
   sender = record { buffer = tt; shifter = tt };
-  receiver = record { sampler = tt; places = tt };
+  receiver = record { sampler = tt; places = tt; waiting = tt };
   disabled = λ _. refl;
   counter = λ _. lit≤ tt;
 }
@@ -195,7 +222,11 @@ valid-formatted u v busy g vu vv c =
     (λ e. record {
       baud = vv .baud;
       sender = record { buffer = any-buffer g (v .sender .buffer) (c e .vacant); shifter = any-shifter g (v .sender .shifter) (c e .resting) };
-      receiver = record { sampler = any-sampler g (v .receiver .sampler) (c e .idle); places = vv .receiver .places };
+      receiver = record {
+        sampler = any-sampler g (v .receiver .sampler) (c e .idle);
+        places = vv .receiver .places;
+        waiting = idle-waiting g (v .receiver .sampler) (v .receiver .queue .places) (c e .idle);
+      };
       disabled = vv .disabled;
       counter = vv .counter;
     })
@@ -212,7 +243,7 @@ valid-acknowledged u v = record {
 valid-enabled : (f : Format) (before after : Bool) (r : Receiver) → ValidReceiver f r → ValidReceiver f (enabledOf before after r)
 unfolding enabledOf
 valid-enabled f before after r v =
-    let z : ValidReceiver f stopped = record { sampler = tt; places = tt } in
+    let z : ValidReceiver f stopped = record { sampler = tt; places = tt; waiting = tt } in
     pick-ind (ValidReceiver f) before _ _ (λ _. pick-ind (ValidReceiver f) after _ _ (λ _. v) (λ _. z)) (λ _. z)
 
 disabled-stopped : (before after : Bool) (r : Receiver) → after ≡ false → enabledOf before after r ≡ stopped

@@ -1,6 +1,7 @@
--- The line theorems are not empty: closed lists that meet every premise. Demand 3's has two frames, at unequal
--- crystals, with reads, a write of UDR0, refused accesses and a vector among the clocks; the sender's has a byte in the
--- buffer at first and one that is written. What comes of them is computed in `Cases.antt`.
+-- The line theorems are not empty: closed lists that meet every premise. Demand 3's has five frames, at unequal
+-- crystals, with reads, a write of UDR0, refused accesses and a vector among the clocks; one frame waits until a read
+-- moves it in, one still waits at the end. The sender's has a byte in the buffer at first and one that is written. What
+-- comes of them is computed in `Cases.antt`.
 use mathlib.Core.Path.{refl}
 use lib.Dec.{lit≤, lit<}
 use Rattle.choice.proofs.Picks.{clash}
@@ -17,11 +18,11 @@ use Rattle.usart.specs.Event.{levelsOf}
 use Rattle.usart.specs.Line.{lineLevel}
 use Rattle.usart.specs.Receiving.{Hears}
 use Rattle.usart.specs.Sending.{MaySend}
-use Rattle.usart.proofs.ClosedLists.{bool-eqb, shown, shown-shows, room, free, free-free}
+use Rattle.usart.proofs.ClosedLists.{bool-eqb, shown, shown-shows, none, room, noneWaits, none-waits}
 use Rattle.usart.proofs.Examples.{listening, frames, level, run, received, loaded, clocks, handed}
 
 pub witness : Hears 813 100 frames listening received
-unfolding listening frames level run received shown free room bool-eqb lineLevel frameBit sumOfBits leftOf steppedOf idleOf castOf nextBitOf shiftedOf tallyOf decidedOf votedOf sampledOf samplerOf listenedOf isBusy clockOf sizeOf parityOf formattedOf writeC isReservedC sizedC timedOf transmittedOf vectorOf parityError
+unfolding listening frames level run received shown noneWaits room none bool-eqb lineLevel frameBit sumOfBits leftOf steppedOf idleOf castOf nextBitOf shiftedOf tallyOf decidedOf votedOf sampledOf samplerOf listenedOf isBusy clockOf sizeOf parityOf formattedOf writeC isReservedC sizedC timedOf transmittedOf vectorOf parityError
 witness = record {
   ready = record { enabled = refl; idle = refl; empty = refl; noLoss = refl; counter = lit≤ tt };
   onlyData = (λ _. refl, (λ _. refl, (clash refl, tt)));
@@ -29,12 +30,12 @@ witness = record {
     p1 = lit≤ tt;
     q1 = lit≤ tt;
     within = (lit≤ tt, lit≤ tt);
-    fits = (lit< tt, (lit< tt, tt));
-    spaced = (lit≤ tt, (tt, tt));
+    fits = (lit< tt, (lit< tt, (lit< tt, (lit< tt, (lit< tt, tt)))));
+    spaced = (lit≤ tt, (lit≤ tt, (lit≤ tt, (lit≤ tt, (tt, tt)))));
     shows = shown-shows level 0 (levelsOf received) refl;
     ended = lit≤ tt;
   };
-  free = free-free listening received refl;
+  noneWaits = none-waits listening received refl;
 }
 
 -- an accepted write of UDR0 and an ignored one

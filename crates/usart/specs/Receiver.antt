@@ -5,10 +5,10 @@ use Rattle.choice.specs.Pick.{pick}
 use Rattle.frame.specs.Word.{dataOf, parityError}
 use Rattle.frame.specs.declared.format.Format.{Format}
 use Rattle.usart.specs.Sampler.{samplerOf}
-use Rattle.usart.specs.Queue.{storedOf}
+use Rattle.usart.specs.Queue.{storedOf, startedOf}
 use Rattle.usart.specs.declared.sampler.Sampler.the-variants.{Idle}
 use Rattle.usart.specs.declared.sampler.Outcome.{Outcome}
-use Rattle.usart.specs.declared.sampler.Outcome.the-variants.{Nothing, Complete}
+use Rattle.usart.specs.declared.sampler.Outcome.the-variants.{Nothing, Started, Complete}
 use Rattle.usart.specs.declared.sampler.Sampled.{Sampled}
 use Rattle.usart.specs.declared.queue.Frame.{Frame}
 use Rattle.usart.specs.declared.queue.Places.the-variants.{Empty}
@@ -23,6 +23,7 @@ frameOf f word stop splits =
 
 abbrev pub putOf : Format → Queue → Outcome → Queue
 putOf f q Nothing = q
+putOf f q Started = startedOf q
 putOf f q (Complete word stop splits) = storedOf q (frameOf f word stop splits)
 
 -- a tick
@@ -40,6 +41,7 @@ listenedOf rxen f r rxd = pick rxen (receiverOf f r rxd) r
 abbrev pub stopped : Receiver
 stopped = record { sampler = Idle false; queue = record { places = Empty; lost = false } }
 
--- RXEN before and after a write: clearing it drops the frame under way, the buffer and a pending loss at once
+-- RXEN before and after a write: clearing it drops the frame under way, the buffer, the one that waits (M-103) and a
+-- pending loss at once
 unfoldable pub enabledOf : Bool → Bool → Receiver → Receiver
 enabledOf before after r = pick before (pick after r stopped) stopped

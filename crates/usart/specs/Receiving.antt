@@ -12,20 +12,21 @@ use Rattle.frame.specs.declared.format.Format.{Format}
 use Rattle.usart.specs.Limit.{limit, Within}
 use Rattle.usart.specs.Baud.{ticks}
 use Rattle.usart.specs.Sampler.{samplerOf}
-use Rattle.usart.specs.Queue.{heldIn}
+use Rattle.usart.specs.Queue.{heldIn, waitingIn, keptIn}
 use Rattle.usart.specs.Unit.{bitLength, clockOf}
 use Rattle.usart.specs.Read.{readOf, splitVotes}
 use Rattle.usart.specs.Event.{Event, clock, write, read, vector, nextOf, isUdr0, OnlyData, levelsOf}
 use Rattle.usart.specs.Line.{Sent, lineLevel, Fits, Spaced, EndedBy, Shows}
 use Rattle.usart.specs.declared.sampler.Sampler.the-variants.{Idle}
 use Rattle.usart.specs.declared.sampler.Outcome.{Outcome}
-use Rattle.usart.specs.declared.sampler.Outcome.the-variants.{Nothing, Complete}
+use Rattle.usart.specs.declared.sampler.Outcome.the-variants.{Nothing, Started, Complete}
 use Rattle.usart.specs.declared.queue.Frame.{Frame}
+use Rattle.usart.specs.declared.queue.Places.{Places}
 use Rattle.usart.specs.declared.queue.Places.the-variants.{Empty}
 use Rattle.usart.specs.declared.unit.Usart.{Usart}
 use Rattle.usart.specs.declared.write.Register.the-variants.{Ucsr0a, Ucsr0b, Udr0}
 
--- enabled, idle, the last sample high, nothing held, no loss pending; any baud counter not above UBRR
+-- enabled, idle, the last sample high, nothing held, none waiting, no loss pending; any baud counter not above UBRR
 pub record Ready (u : Usart) : Type 0 where
   pub enabled : u .control .rxen ≡ true
   pub idle : u .receiver .sampler ≡ Idle true
@@ -37,21 +38,27 @@ pub record Ready (u : Usart) : Type 0 where
 abbrev pub heldBy : Usart → List Frame
 heldBy u = heldIn (u .receiver .queue .places)
 
+-- the frame that waits for a place
+abbrev pub waitingBy : Usart → List Frame
+waitingBy u = waitingIn (u .receiver .queue .places)
+
 -- what the sampler makes of a clock
 abbrev pub outcomeAt : Usart → Bool → Outcome
 outcomeAt u rxd = pick (ticks (u .baud)) (pick (u .control .rxen) (samplerOf (u .format) (u .receiver .sampler) rxd .outcome) Nothing) Nothing
 
-abbrev pub isComplete : Outcome → Bool
-isComplete Nothing = false
-isComplete (Complete word stop splits) = true
+-- a start bit is accepted: its last vote came out low
+abbrev pub isStart : Outcome → Bool
+isStart Nothing = false
+isStart Started = true
+isStart (Complete word stop splits) = false
 
--- a place is free whenever a frame completes: fewer than two are held
-abbrev pub Free : Usart → List Event → Type 0
-Free u [] = Unit {0}
-Free u (clock rxd ∷ es) = (isComplete (outcomeAt u rxd) ≡ true → length (heldBy u) < 2) × Free (clockOf u rxd) es
-Free u (write r v ∷ es) = Free (nextOf u (write r v)) es
-Free u (read r ∷ es) = Free (nextOf u (read r)) es
-Free u (vector ∷ es) = Free (nextOf u vector) es
+-- M-103's room: none waits when a start bit is accepted
+abbrev pub NoneWaits : Usart → List Event → Type 0
+NoneWaits u [] = Unit {0}
+NoneWaits u (clock rxd ∷ es) = (isStart (outcomeAt u rxd) ≡ true → waitingBy u ≡ []) × NoneWaits (clockOf u rxd) es
+NoneWaits u (write r v ∷ es) = NoneWaits (nextOf u (write r v)) es
+NoneWaits u (read r ∷ es) = NoneWaits (nextOf u (read r)) es
+NoneWaits u (vector ∷ es) = NoneWaits (nextOf u vector) es
 
 -- the line of the frames fs, of bits P/Q clocks long, is what the levels show a receiver of this format and UBRR, whose
 -- bit, S·(UBRR + 1) clocks, differs within the recommended limit
@@ -69,7 +76,7 @@ pub record Hears (P Q : ℕ) (fs : List Sent) (u : Usart) (es : List Event) : Ty
   pub ready : Ready u
   pub onlyData : OnlyData u es
   pub line : LineOn P Q fs (u .format) (u .baud .ubrr) (levelsOf es)
-  pub free : Free u es
+  pub noneWaits : NoneWaits u es
 
 -- a frame as firmware and rig see it: UDR0, RXB8, FE, DOR and UPE, and its split votes
 pub record Seen : Type 0 where
@@ -103,7 +110,7 @@ abbrev pub readsOf : Usart → List Event → List Seen
 readsOf u [] = []
 readsOf u (e ∷ es) = takenBy u e ++ readsOf (nextOf u e) es
 
--- a frame still held has the same in it
+-- a frame still held, or waiting, has the same in it
 abbrev pub seenIn : Frame → Seen
 seenIn f = record {
   value = f .«data» % 256;
@@ -119,24 +126,53 @@ seenIn f = record {
 abbrev pub clean : Sent → Seen
 clean s = record { value = s .«data» % 256; rxb8 = bitAt (s .«data») 8; fe = 0; dor = 0; upe = 0; splits = 0 }
 
--- the clocks at which frames enter the buffer, in order, the first clock of the list being j
-abbrev pub entriesOf : ℕ → Usart → List Event → List ℕ
-entriesOf j u [] = []
-entriesOf j u (clock rxd ∷ es) =
-    pick (ltb (length (heldBy u)) (length (heldBy (clockOf u rxd)))) (j ∷ []) [] ++ entriesOf (suc j) (clockOf u rxd) es
-entriesOf j u (write r v ∷ es) = entriesOf j (nextOf u (write r v)) es
-entriesOf j u (read r ∷ es) = entriesOf j (nextOf u (read r)) es
-entriesOf j u (vector ∷ es) = entriesOf j (nextOf u vector) es
+-- a frame that completes at a clock: whether a place was free just before it, and whether, after it, one more is held, or
+-- one more waits
+pub record Arrival : Type 0 where
+  pub at : ℕ
+  pub free : Bool
+  pub held : Bool
+  pub waits : Bool
 
--- each frame enters at a clock n+t with t·Q < (D+2)·P
-abbrev pub InTime : ℕ → ℕ → ℕ → List ℕ → List Sent → Type 0
+-- what completes at clock j, by the frames before it and after it: a place is free when fewer than two are held
+abbrev pub arrivedIn : ℕ → Places → Places → List Arrival
+arrivedIn j p q =
+    pick (ltb (length (keptIn p)) (length (keptIn q)))
+    (record {
+      at = j;
+      free = ltb (length (heldIn p)) 2;
+      held = ltb (length (heldIn p)) (length (heldIn q));
+      waits = ltb (length (waitingIn p)) (length (waitingIn q));
+    } ∷ [])
+    []
+
+abbrev pub arrivedBy : ℕ → Usart → Usart → List Arrival
+arrivedBy j u v = arrivedIn j (u .receiver .queue .places) (v .receiver .queue .places)
+
+-- the frames that complete, in order, the first clock of the list being j
+abbrev pub arrivalsOf : ℕ → Usart → List Event → List Arrival
+arrivalsOf j u [] = []
+arrivalsOf j u (clock rxd ∷ es) = arrivedBy j u (clockOf u rxd) ++ arrivalsOf (suc j) (clockOf u rxd) es
+arrivalsOf j u (write r v ∷ es) = arrivalsOf j (nextOf u (write r v)) es
+arrivalsOf j u (read r ∷ es) = arrivalsOf j (nextOf u (read r)) es
+arrivalsOf j u (vector ∷ es) = arrivalsOf j (nextOf u vector) es
+
+-- the frame s completes at a clock n+t with t·Q < (D+2)·P, before its first stop bit has ended. It is held then if it
+-- finds a place free, else it waits then
+pub record Arrives (D P Q : ℕ) (a : Arrival) (s : Sent) : Type 0 where
+  pub began : s .start ≤ a .at
+  pub inTime : (a .at - s .start) * Q < (D + 2) * P
+  pub held : a .free ≡ true → a .held ≡ true
+  pub waits : a .free ≡ false → a .waits ≡ true
+
+abbrev pub InTime : ℕ → ℕ → ℕ → List Arrival → List Sent → Type 0
 InTime D P Q [] [] = Unit {0}
 InTime D P Q [] (s ∷ ss) = ⊥
-InTime D P Q (j ∷ js) [] = ⊥
-InTime D P Q (j ∷ js) (s ∷ ss) = ((s .start ≤ j) × ((j - s .start) * Q < (D + 2) * P)) × InTime D P Q js ss
+InTime D P Q (a ∷ bs) [] = ⊥
+InTime D P Q (a ∷ bs) (s ∷ ss) = Arrives D P Q a s × InTime D P Q bs ss
 
--- the frames read, in order, then those held at the end, oldest first, are the line's, each once, and each entered in
--- time
-pub record Delivered (P Q : ℕ) (fs : List Sent) (f : Format) (reads : List Seen) (held : List Frame) (entries : List ℕ) : Type 0 where
-  pub frames : reads ++ map seenIn held ≡ map clean fs
-  pub inTime : InTime (wordBits f) P Q entries fs
+-- the frames read, in order, then those held at the end, oldest first, then one that still waits, are the line's, each
+-- once, and each in time
+pub record Delivered (P Q : ℕ) (fs : List Sent) (f : Format) (reads : List Seen) (held waiting : List Frame) (arrivals : List Arrival) : Type 0 where
+  pub frames : reads ++ map seenIn (held ++ waiting) ≡ map clean fs
+  pub inTime : InTime (wordBits f) P Q arrivals fs

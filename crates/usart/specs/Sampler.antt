@@ -12,7 +12,7 @@ use Rattle.usart.specs.declared.sample.Sample.{Sample}
 use Rattle.usart.specs.declared.sampler.Reception.{Reception}
 use Rattle.usart.specs.declared.sampler.Sampler.{Sampler}
 use Rattle.usart.specs.declared.sampler.Sampler.the-variants.{Idle, Receiving}
-use Rattle.usart.specs.declared.sampler.Outcome.the-variants.{Nothing, Complete}
+use Rattle.usart.specs.declared.sampler.Outcome.the-variants.{Nothing, Started, Complete}
 use Rattle.usart.specs.declared.sampler.Sampled.{Sampled}
 
 -- the receiver is between first low sample and stop decision
@@ -20,7 +20,7 @@ abbrev pub isReceiving : Sampler → Bool
 isReceiving (Idle last) = false
 isReceiving (Receiving r) = true
 
--- a sample that completes no frame
+-- a sample that accepts no start bit and completes no frame
 abbrev pub still : Sampler → Sampled
 still s = record { sampler = s; outcome = Nothing }
 
@@ -65,11 +65,11 @@ mostVotes = 12
 unfoldable pub tallyOf : ℕ → Bool → ℕ
 tallyOf splits unanimous = pick unanimous splits (pick (ltb splits mostVotes) (splits + 1) splits)
 
--- the last vote, by the sample rxd. A start bit voted high is dropped; the frame completes at the first stop bit's.
--- Then, and after a dropped start, the receiver is idle and remembers that last sample
+-- the last vote, by the sample rxd. A start bit voted high is dropped, one voted low is accepted; the frame completes at
+-- the first stop bit's. Then, and after a dropped start, the receiver is idle and remembers that last sample
 unfoldable pub decidedOf : Format → Reception → Bool → Bool → Sampled
 decidedOf f r rxd level =
-    pick (eqb (r .bit) 0) (pick level (still (Idle rxd)) (still (Receiving r)))
+    pick (eqb (r .bit) 0) (pick level (still (Idle rxd)) (record { sampler = Receiving r; outcome = Started }))
     (pick (leb (r .bit) (wordBits f)) (still (Receiving (shiftedOf f r level)))
     (record { sampler = Idle rxd; outcome = Complete (r .word) level (r .splits) }))
 

@@ -1,7 +1,8 @@
--- The ranges of the unit's fields. Frames held for reading outlive a change of format, so their range is not bound by
--- the present one; what the sender holds and a frame under way in the receiver are.
+-- The ranges of the unit's fields. Frames held for reading, or waiting, outlive a change of format, so their range is
+-- not bound by the present one; what the sender holds and a frame under way in the receiver are.
 use Prim.Native.Nat.{ℕ, _+_, _-_, _%_, _^_, _<_, _≤_}
 use mathlib.Core.Bool.{Bool, true, false}
+use mathlib.Core.List.{[]}
 use mathlib.Core.Path.{_≡_}
 use lib.Dec.{ltb}
 use Rattle.choice.specs.Pick.{pick}
@@ -10,6 +11,7 @@ use Rattle.frame.specs.Word.{wordOf}
 use Rattle.frame.specs.declared.format.Format.{Format}
 use Rattle.usart.specs.Sender.{isResting}
 use Rattle.usart.specs.Sampler.{isReceiving, mostVotes}
+use Rattle.usart.specs.Queue.{waitingIn}
 use Rattle.usart.specs.Receiver.{stopped}
 use Rattle.usart.specs.declared.baud.Baud.{Baud}
 use Rattle.usart.specs.declared.sender.Buffer.{Buffer}
@@ -23,7 +25,7 @@ use Rattle.usart.specs.declared.sampler.Sampler.{Sampler}
 use Rattle.usart.specs.declared.sampler.Sampler.the-variants.{Idle, Receiving}
 use Rattle.usart.specs.declared.queue.Frame.{Frame}
 use Rattle.usart.specs.declared.queue.Places.{Places}
-use Rattle.usart.specs.declared.queue.Places.the-variants.{Empty, One, Two}
+use Rattle.usart.specs.declared.queue.Places.the-variants.{Empty, One, Two, Three}
 use Rattle.usart.specs.declared.receiver.Receiver.{Receiver}
 use Rattle.usart.specs.declared.unit.Usart.{Usart}
 
@@ -82,10 +84,17 @@ abbrev pub ValidPlaces : Places → Type 0
 ValidPlaces Empty = Unit {0}
 ValidPlaces (One a) = ValidFrame a
 ValidPlaces (Two a b) = ValidFrame a × ValidFrame b
+ValidPlaces (Three a b c) = ValidFrame a × (ValidFrame b × ValidFrame c)
+
+-- M-103: once the start bit of a frame under way is decided it was accepted, and none waits
+abbrev pub ValidWaiting : Format → Sampler → Places → Type 0
+ValidWaiting f (Idle last) p = Unit {0}
+ValidWaiting f (Receiving r) p = 1 ≤ votedBits f r → waitingIn p ≡ []
 
 pub record ValidReceiver (f : Format) (r : Receiver) : Type 0 where
   pub sampler : ValidSampler f (r .sampler)
   pub places : ValidPlaces (r .queue .places)
+  pub waiting : ValidWaiting f (r .sampler) (r .queue .places)
 
 -- a frame is being sent or received
 abbrev pub isInShift : Usart → Bool

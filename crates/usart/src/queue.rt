@@ -1,5 +1,5 @@
 ghost use mathlib.Core.Path.{_≡_};
-ghost use Rattle.usart.specs.Queue.{markedOf, holding, storedOf, withoutOldest, oldestOf, isEmpty};
+ghost use Rattle.usart.specs.Queue.{markedOf, holding, storedOf, startedOf, withoutOldest, oldestOf, isEmpty};
 
 // A received frame, with how many of its votes were split.
 pub struct Frame {
@@ -10,16 +10,17 @@ pub struct Frame {
     pub splits: u8,
 }
 
-// Frames received and not yet read, oldest first.
+// Frames received and not yet read, oldest first. Two are held; a third one waits in the shift register.
 pub enum Places {
     Empty,
     One(Frame),
     Two(Frame, Frame),
+    Three(Frame, Frame, Frame),
 }
 
 pub struct Queue {
     pub places: Places,
-    // A frame was lost; the next one stored carries DOR.
+    // A frame was lost; the next one that completes carries DOR.
     pub lost: bool,
 }
 
@@ -51,9 +52,11 @@ impl Queue {
             Places::Empty => true,
             Places::One(_) => false,
             Places::Two(_, _) => false,
+            Places::Three(_, _, _) => false,
         }
     }
 
+    // A frame completes. With both places full it waits.
     pub fn stored(self, f: Frame) -> Queue
         ensures { λ r. ⌜ r ≡ storedOf self f ⌝ }
     {
@@ -62,14 +65,28 @@ impl Queue {
         match p {
             Places::Empty => Queue::holding(Places::One(g)),
             Places::One(a) => Queue::holding(Places::Two(a, g)),
-            Places::Two(a, b) => Queue {
+            Places::Two(a, b) => Queue::holding(Places::Three(a, b, g)),
+            Places::Three(a, b, _) => Queue::holding(Places::Three(a, b, f.marked(true))),
+        }
+    }
+
+    // A start bit is accepted: its frame needs the shift register, and the one that waits there is lost.
+    pub fn started(self) -> Queue
+        ensures { λ r. ⌜ r ≡ startedOf self ⌝ }
+    {
+        let p = self.places;
+        match p {
+            Places::Empty => self,
+            Places::One(_) => self,
+            Places::Two(_, _) => self,
+            Places::Three(a, b, _) => Queue {
                 places: Places::Two(a, b),
                 lost: true,
             },
         }
     }
 
-    // The oldest frame is taken away, if there is one.
+    // The oldest frame is taken away, if there is one, and the one that waits moves in.
     pub fn taken(self) -> Queue
         ensures { λ r. ⌜ r ≡ withoutOldest self ⌝ }
     {
@@ -85,6 +102,10 @@ impl Queue {
             },
             Places::Two(_, b) => Queue {
                 places: Places::One(b),
+                lost: self.lost,
+            },
+            Places::Three(_, b, c) => Queue {
+                places: Places::Two(b, c),
                 lost: self.lost,
             },
         }
@@ -105,6 +126,7 @@ impl Queue {
             },
             Places::One(a) => a,
             Places::Two(a, _) => a,
+            Places::Three(a, _, _) => a,
         }
     }
 }

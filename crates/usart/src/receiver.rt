@@ -30,12 +30,13 @@ fn put(q: Queue, f: Format, o: Outcome) -> Queue
 {
     match o {
         Outcome::Nothing => q,
+        Outcome::Started => q.started(),
         Outcome::Complete(word, stop, splits) => q.stored(received(f, word, stop, splits)),
     }
 }
 
 impl Receiver {
-    // Idle, remembering low, with nothing held: as after reset, when disabled, and when newly enabled.
+    // Idle, remembering low, with nothing held or waiting: as after reset, when disabled, and when newly enabled.
     pub fn stopped() -> Receiver
         ensures { λ r. ⌜ r ≡ stopped ⌝ }
     {

@@ -28,6 +28,8 @@ pub enum Sampler {
 // What a sample leads to.
 pub enum Outcome {
     Nothing,
+    // A start bit is accepted.
+    Started,
     // A frame completes, with its word, the vote on its stop bit and how many of its votes were split.
     Complete(u16, bool, u8),
 }
@@ -141,7 +143,7 @@ impl Reception {
             }
             return Sampled {
                 sampler: Sampler::Receiving(self),
-                outcome: Outcome::Nothing,
+                outcome: Outcome::Started,
             };
         }
         if self.bit <= f.word_bits() {
