@@ -17,16 +17,16 @@ use Rattle.usart.specs.declared.sender.Transmission.{Transmission}
 use Rattle.usart.specs.declared.sampler.Reception.{Reception}
 use Rattle.device.specs.Valid.{Valid}
 use Rattle.record.specs.Layout.{most, recordLength, layoutByte, layoutNumber, ucsr0aByte, ucsr0bByte, ucsr0cByte, byteAt, wordAt, tripleAt, setAt, low, high}
-use Rattle.record.specs.Layout.{sendingByte, receivingByte, lastByte, fullByte, dataByte, heldByte, lostByte, oldestByte, nextByte}
+use Rattle.record.specs.Layout.{sendingByte, receivingByte, lastByte, fullByte, dataByte, heldByte, waitsByte, lostByte, oldestByte, nextByte, thirdByte}
 use Rattle.record.specs.Codes.{sizeCode, flagCode, flagOf}
 use Rattle.record.specs.Parts.{bufferData, transmissionIn, rememberedIn, receptionIn}
 use Rattle.record.specs.Image.{bit, imageOf}
 use Rattle.record.specs.Lift.{baudAt, formatAt, controlAt, bufferAt, transmissionAt, shifterAt, receptionAt, samplerAt, frameAt, placesAt, usartAt, spiAt, deviceAt}
-use Rattle.record.specs.Accepts.{isWithin, settingsFit, counterFits, bufferFits, shifterFits, samplerFits, placesFit, enabledFits, usartFits, spiFits, accepts}
+use Rattle.record.specs.Accepts.{isWithin, settingsFit, counterFits, bufferFits, shifterFits, samplerFits, placesFit, waitingFits, enabledFits, usartFits, spiFits, accepts}
 use Rattle.record.proofs.ListLaws.{and-both}
 use Rattle.record.proofs.RegisterLaws.{a-again, b-again, c-again}
 use Rattle.record.proofs.TestLaws.{counter-valid, buffer-valid, buffer-shown, shifter-valid, shifter-shown, sampler-valid, sampler-shown}
-use Rattle.record.proofs.QueueLaws.{FrameBytes, places-valid, PlacesShown, places-shown, enabled-valid}
+use Rattle.record.proofs.QueueLaws.{FrameBytes, places-valid, PlacesShown, places-shown, waiting-valid, enabled-valid}
 use Rattle.record.proofs.SpiTestLaws.{spi-valid}
 
 -- no byte is above its limit
@@ -106,6 +106,7 @@ module _ (s : List ℕ) (h : accepts s ≡ true) where
     pub shifter : shifterFits (formatAt s) (setAt s sendingByte) (transmissionAt s) ≡ true
     pub sampler : samplerFits (formatAt s) (setAt s receivingByte) (setAt s lastByte) (receptionAt s) ≡ true
     pub places : placesFit (x heldByte) (tripleAt s oldestByte) (tripleAt s nextByte) ≡ true
+    pub waiting : waitingFits (formatAt s) (receptionAt s) (x heldByte) (setAt s waitsByte) (tripleAt s thirdByte) ≡ true
     pub enabled : enabledFits (controlAt s .rxen) (setAt s receivingByte) (setAt s lastByte) (x heldByte) (setAt s lostByte) ≡ true
 
   pub serial : SerialTests
@@ -116,7 +117,8 @@ module _ (s : List ℕ) (h : accepts s ≡ true) where
       let c = both (shifterFits (formatAt s) (setAt s sendingByte) (transmissionAt s)) _ (b .1) in
       let d = both (samplerFits (formatAt s) (setAt s receivingByte) (setAt s lastByte) (receptionAt s)) _ (c .1) in
       let e = both (placesFit (x heldByte) (tripleAt s oldestByte) (tripleAt s nextByte)) _ (d .1) in
-      record { counter = a .0; buffer = b .0; shifter = c .0; sampler = d .0; places = e .0; enabled = e .1 }
+      let g = both (waitingFits (formatAt s) (receptionAt s) (x heldByte) (setAt s waitsByte) (tripleAt s thirdByte)) _ (e .1) in
+      record { counter = a .0; buffer = b .0; shifter = c .0; sampler = d .0; places = e .0; waiting = g .0; enabled = g .1 }
 
   pub limit : (i : ℕ) → i < recordLength → x i ≤ getD most i 0
   limit i l = within-at s most (tests .within) i l
@@ -169,6 +171,9 @@ module _ (s : List ℕ) (h : accepts s ≡ true) where
   second-bytes : FrameBytes (x 31) (x 32) (x 33)
   second-bytes = record { low-lt = below 31 (omega arith) (omega arith); marks-le = limit 32 (omega arith); splits-le = limit 33 (omega arith) }
 
+  third-bytes : FrameBytes (x 34) (x 35) (x 36)
+  third-bytes = record { low-lt = below 34 (omega arith) (omega arith); marks-le = limit 35 (omega arith); splits-le = limit 36 (omega arith) }
+
   valid-usart : ValidUsart (usartAt s)
   valid-usart =
       let m0 = limit 0 (omega arith) in let m1 = limit 1 (omega arith) in
@@ -181,11 +186,16 @@ module _ (s : List ℕ) (h : accepts s ≡ true) where
         };
         receiver = record {
           sampler = sampler-valid (formatAt s) (setAt s receivingByte) (setAt s lastByte) (receptionAt s) (serial .sampler);
-          places = places-valid (x 28) (x 29) (x 30) (x 31) (x 32) (x 33) oldest-bytes second-bytes (x heldByte) (limit 25 (omega arith));
+          places =
+              places-valid (x 28) (x 29) (x 30) (x 31) (x 32) (x 33) (x 34) (x 35) (x 36) oldest-bytes second-bytes third-bytes (x heldByte) (setAt s waitsByte)
+              (limit 25 (omega arith));
+          waiting =
+              waiting-valid (formatAt s) (setAt s receivingByte) (setAt s lastByte) (receptionAt s) (x heldByte) (setAt s waitsByte) (frameAt s oldestByte)
+              (frameAt s nextByte) (frameAt s thirdByte) (tripleAt s thirdByte) (serial .waiting);
         };
         disabled =
-            enabled-valid (controlAt s .rxen) (setAt s receivingByte) (setAt s lastByte) (receptionAt s) (x heldByte) (frameAt s oldestByte) (frameAt s nextByte)
-            (setAt s lostByte) (serial .enabled);
+            enabled-valid (controlAt s .rxen) (setAt s receivingByte) (setAt s lastByte) (receptionAt s) (x heldByte) (setAt s waitsByte) (frameAt s oldestByte)
+            (frameAt s nextByte) (frameAt s thirdByte) (setAt s lostByte) (serial .enabled);
         counter = λ e.
             counter-valid (setAt s sendingByte) (setAt s receivingByte) (baudAt s) (serial .counter)
             (in-shift (setAt s receivingByte) (setAt s sendingByte) (isResting (shifterAt s)) (shown-shifter .0)
@@ -202,9 +212,10 @@ module _ (s : List ℕ) (h : accepts s ≡ true) where
 
   -- and they are its image
 
-  places : PlacesShown (x 28) (x 29) (x 30) (x 31) (x 32) (x 33) oldest-bytes second-bytes (x heldByte) (placesAt s)
+  places : PlacesShown (x 28) (x 29) (x 30) (x 31) (x 32) (x 33) (x 34) (x 35) (x 36) oldest-bytes second-bytes third-bytes (x heldByte) (setAt s waitsByte) (placesAt s)
   places =
-      places-shown (x 28) (x 29) (x 30) (x 31) (x 32) (x 33) oldest-bytes second-bytes (x heldByte) (limit 25 (omega arith)) (serial .places)
+      places-shown (x 28) (x 29) (x 30) (x 31) (x 32) (x 33) (x 34) (x 35) (x 36) oldest-bytes second-bytes third-bytes (formatAt s) (receptionAt s) (x heldByte)
+      (setAt s waitsByte) (limit 25 (omega arith)) (serial .places) (serial .waiting)
 
   bit-of : {b : Bool} (i : ℕ) → x i ≤ 1 → b ≡ setAt s i → bit b ≡ x i
   bit-of i l e = ap bit e ∙ bit-again (x i) l
@@ -245,10 +256,10 @@ module _ (s : List ℕ) (h : accepts s ≡ true) where
       ▹ bit-of 21 (limit 21 (omega arith)) (ap (λ (r : Reception). r .second) reception)
       ▹ low-of 22 (le-255 22 (omega arith) (omega arith)) (ap (λ (r : Reception). r .word) reception)
       ▹ high-of 22 (le-255 22 (omega arith) (omega arith)) (le-255 23 (omega arith) (omega arith)) (ap (λ (r : Reception). r .word) reception)
-      ▹ ap (λ (r : Reception). r .splits) reception ▹ places .count ▹ none (limit 26 (omega arith)) ▹ bit-of 27 (limit 27 (omega arith)) refl
+      ▹ ap (λ (r : Reception). r .splits) reception ▹ places .count ▹ bit-of 26 (limit 26 (omega arith)) (places .flag) ▹ bit-of 27 (limit 27 (omega arith)) refl
       ▹ places .oldest .low-is ▹ places .oldest .marks-are ▹ places .oldest .splits-are
       ▹ places .second .low-is ▹ places .second .marks-are ▹ places .second .splits-are
-      ▹ none (limit 34 (omega arith)) ▹ none (limit 35 (omega arith)) ▹ none (limit 36 (omega arith)) ▹ none (limit 37 (omega arith))
+      ▹ places .third .low-is ▹ places .third .marks-are ▹ places .third .splits-are ▹ none (limit 37 (omega arith))
       ▹ none (limit 38 (omega arith)) ▹ none (limit 39 (omega arith)) ▹ none (limit 40 (omega arith)) ▹ none (limit 41 (omega arith))
       ▹ none (limit 42 (omega arith)) ▹ none (limit 43 (omega arith)) ▹ none (limit 44 (omega arith)) ▹ none (limit 45 (omega arith))
       ▹ none (limit 46 (omega arith)) ▹ none (limit 47 (omega arith))

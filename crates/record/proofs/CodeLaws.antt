@@ -1,15 +1,16 @@
 -- Laws of codes, words and parts: each is had again from what the bytes hold of it. Assumes nothing.
 use Prim.Native.Nat.{ℕ, zero, suc, _+_, _-_, _*_, _%_, _^_, _<_, _≤_}
-use mathlib.Core.Bool.{Bool, true, false, not}
+use mathlib.Core.Bool.{Bool, true, false, not, _&&_}
 use mathlib.Core.Path.{_≡_, refl, sym, ap, _∙_}
 use native.Mathlib.Nat.{pow-suc, pow-le-pow-right}
 use native.Mathlib.Decide.{decLt}
 use native.Mathlib.Omega.{arith}
 use lib.Dec.{eqb, ltb, leb}
-use borrow.Author.Tests.{lt-ltb, le-ltb, lt-leb, le-leb}
+use borrow.Author.Tests.{ne-eqb, lt-ltb, le-ltb, lt-leb, le-leb}
+use Rattle.choice.proofs.Picks.{split}
 use Rattle.choice.specs.Pick.{pick}
 use lib.Pow.{pow-pos}
-use Rattle.frame.specs.Format.{dataBits, wordBits}
+use Rattle.frame.specs.Format.{firstVote, dataBits, wordBits}
 use Rattle.frame.specs.declared.format.Size.{Size}
 use Rattle.frame.specs.declared.format.Size.the-variants.{Five, Six, Seven, Eight, Nine}
 use Rattle.frame.specs.declared.format.Parity.{Parity}
@@ -20,18 +21,20 @@ use Rattle.usart.specs.Settings.{codeOf, sizeOf, upmOf, parityOf}
 use Rattle.usart.specs.Sender.{isVacant, isResting}
 use Rattle.usart.specs.Sampler.{isReceiving}
 use Rattle.usart.specs.Queue.{oldestOf}
+use Rattle.usart.specs.Valid.{votedBits}
 use Rattle.usart.specs.declared.sender.Buffer.{Buffer}
 use Rattle.usart.specs.declared.sender.Buffer.the-variants.{Vacant, Full}
 use Rattle.usart.specs.declared.sender.ShiftRegister.{ShiftRegister}
 use Rattle.usart.specs.declared.sender.ShiftRegister.the-variants.{Resting, Sending}
+use Rattle.usart.specs.declared.sampler.Reception.{Reception}
 use Rattle.usart.specs.declared.sampler.Sampler.{Sampler}
 use Rattle.usart.specs.declared.sampler.Sampler.the-variants.{Idle, Receiving}
 use Rattle.usart.specs.declared.queue.Places.{Places}
-use Rattle.usart.specs.declared.queue.Places.the-variants.{Empty, One, Two}
+use Rattle.usart.specs.declared.queue.Places.the-variants.{Empty, One, Two, Three}
 use Rattle.spi.specs.declared.flag.Flag.{Flag}
 use Rattle.spi.specs.declared.flag.Flag.the-variants.{Clear, Set, Armed}
 use Rattle.record.specs.Codes.{knownSize, flagCode, flagOf}
-use Rattle.record.specs.Parts.{bufferData, bufferFrom, transmissionIn, shifterFrom, rememberedIn, receptionIn, samplerFrom, heldCount, secondIn, placesFrom}
+use Rattle.record.specs.Parts.{bufferData, bufferFrom, transmissionIn, shifterFrom, rememberedIn, receptionIn, samplerFrom, heldCount, secondIn, isWaiting, thirdIn, placesFrom}
 use Rattle.record.specs.Layout.{low, high}
 use Rattle.record.specs.Image.{bit}
 
@@ -91,11 +94,12 @@ unfolding samplerFrom
 sampler-again (Idle last) = refl
 sampler-again (Receiving r) = refl
 
-pub places-again : (p : Places) → placesFrom (heldCount p) (oldestOf p) (secondIn p) ≡ p
+pub places-again : (p : Places) → placesFrom (heldCount p) (isWaiting p) (oldestOf p) (secondIn p) (thirdIn p) ≡ p
 unfolding placesFrom
 places-again Empty = refl
 places-again (One a) = refl
 places-again (Two a b) = refl
+places-again (Three a b c) = refl
 
 -- one bit, shifted up
 pub shifted-one : (n : ℕ) → n ≤ 11 → (1 * 2 ^ n % 65536 ≡ 2 ^ n) × (1 ≤ 1 * 2 ^ n % 65536)
@@ -115,6 +119,20 @@ splits-after v s b c {n} h e = rw (le-ltb s (v + 2) h) (elim (decLt b n) [
   | yes p ↦ lt-leb n b p ∙ sym (lt-leb c (b + 1) (omega arith))
   | no p ↦ le-leb n b (omega arith) ∙ sym (le-leb c (b + 1) (omega arith))
 ])
+
+-- the start bit is not decided
+pub none-decided : (f : Format) (r : Reception) {v : ℕ} → v ≡ firstVote f → (eqb (r .bit) 0 && ltb (r .sample .0) (v + 2)) ≡ eqb (votedBits f r) 0
+none-decided f r e = rw e (split (ltb (r .sample .0) (firstVote f + 2))
+    (λ t. rw t (and-true (eqb (r .bit) 0)))
+    (λ t. rw t (and-false (eqb (r .bit) 0) ∙ sym (ne-eqb (r .bit + 1) 0 (λ k. omega arith)))))
+  where
+    and-true : (t : Bool) → (t && true) ≡ t
+    and-true true = refl
+    and-true false = refl
+
+    and-false : (t : Bool) → (t && false) ≡ false
+    and-false true = refl
+    and-false false = refl
 
 -- bits that have not come in, with b the bit that is sampled and s its samples: before its last vote, and from there on
 

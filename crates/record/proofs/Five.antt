@@ -3,6 +3,7 @@ use Prim.Native.Nat.{ℕ, zero, suc, _<_, _≤_}
 use mathlib.Core.Bool.{Bool, true, false, not, _&&_}
 use mathlib.Core.List.{List, [], _∷_}
 use mathlib.Core.Path.{_≡_, refl, sym, ap, ap₂, _∙_}
+use native.Mathlib.Decide.{decLt}
 use native.Mathlib.Omega.{arith}
 use lib.Dec.{eqb, leb}
 use lib.ListN.{length, getD}
@@ -11,25 +12,27 @@ use Rattle.choice.specs.Pick.{pick}
 use Rattle.choice.proofs.Picks.{pick-true, pick-false, both, split, clash}
 use Rattle.usart.specs.Sender.{isResting}
 use Rattle.usart.specs.Sampler.{isReceiving}
-use Rattle.usart.specs.Valid.{ValidBuffer, ValidShifter, ValidSampler}
+use Rattle.usart.specs.Valid.{votedBits, ValidBuffer, ValidShifter, ValidSampler, ValidWaiting}
 use Rattle.usart.specs.declared.sender.Transmission.{Transmission}
 use Rattle.usart.specs.declared.sender.ShiftRegister.the-variants.{Sending}
 use Rattle.usart.specs.declared.sampler.Reception.{Reception}
 use Rattle.usart.specs.declared.sampler.Sampler.the-variants.{Receiving}
+use Rattle.usart.specs.declared.queue.Places.the-variants.{Three}
+use Rattle.usart.proofs.TallyLaws.{voted-before}
 use Rattle.device.specs.declared.unit.Device.{Device}
 use Rattle.record.specs.Layout.{recordLength, layoutNumber, layoutByte, ucsr0aByte, ucsr0bByte, ucsr0cByte, fullByte, dataByte, sendingByte}
 use Rattle.record.specs.Layout.{sentWordByte, sentBitByte, sentTicksByte, receivingByte, lastByte, bitByte, samplesByte, firstByte, secondByte}
-use Rattle.record.specs.Layout.{wordByte, splitsByte, heldByte, lostByte, oldestByte, nextByte, most, byteAt, wordAt, tripleAt, setAt}
-use Rattle.record.specs.Parts.{bufferFrom, shifterFrom, samplerFrom, rememberedIn}
+use Rattle.record.specs.Layout.{wordByte, splitsByte, heldByte, waitsByte, lostByte, oldestByte, nextByte, thirdByte, most, byteAt, wordAt, tripleAt, setAt}
+use Rattle.record.specs.Parts.{bufferFrom, shifterFrom, samplerFrom, placesFrom, rememberedIn}
 use Rattle.record.specs.Lift.{baudAt, formatAt, controlAt, transmissionAt, receptionAt, samplerAt, frameAt, receiverAt, spiAt, deviceAt}
-use Rattle.record.specs.Accepts.{isWithin, settingsFit, counterFits, bufferFits, isNoTransmission, shifterFits, isNoReception, samplerFits, placesFit, enabledFits, usartFits, accepts, isRecord}
+use Rattle.record.specs.Accepts.{isWithin, settingsFit, counterFits, bufferFits, isNoTransmission, shifterFits, isNoReception, samplerFits, placesFit, waitingFits, enabledFits, usartFits, accepts, isRecord}
 use Rattle.record.specs.Codec.{decodeOf}
 use Rattle.record.specs.Refusing.{OthersZero, isUnused, FieldsInRange, NoRecord, wrongLength, outOfRange, unusedByte}
 use Rattle.record.specs.declared.codec.Decoded.{Decoded}
 use Rattle.record.specs.declared.codec.Decoded.the-variants.{Accepted, Refused}
 use Rattle.record.proofs.ListLaws.{and-both, and-pair}
 use Rattle.record.proofs.TestLaws.{three, and-three, counter-fits, shifter-fits, sampler-fits, sampler-shown}
-use Rattle.record.proofs.QueueLaws.{places-count, enabled-fits}
+use Rattle.record.proofs.QueueLaws.{none-voted, places-count, enabled-fits}
 use Rattle.record.proofs.SpiTestLaws.{spi-fits}
 use Rattle.record.proofs.BytesLaws.{within-at, tests, serial, limit, registers, valid-device}
 
@@ -63,7 +66,7 @@ zero-flag x h e = let n = eqb-false x 1 e in omega arith
 
 module _ (s : List ℕ) (h : accepts s ≡ true) where
   others-zero : OthersZero s
-  unfolding bufferFits shifterFits samplerFits placesFit
+  unfolding bufferFits shifterFits samplerFits placesFit waitingFits
   others-zero = record {
     buffer = λ e. eqb-true (wordAt s dataByte) 0 (no-buffer (setAt s fullByte) (not-set fullByte e) (serial s h .buffer));
     sent = λ e.
@@ -77,6 +80,8 @@ module _ (s : List ℕ) (h : accepts s ≡ true) where
     splits = λ e. idle e .1 .1 .1 .1 .1;
     oldest = λ e. no-oldest (byteAt s heldByte) e (serial s h .places);
     second = λ e. no-second (byteAt s heldByte) e (serial s h .places);
+    waits = λ e. zero-flag _ (limit s h waitsByte (omega arith)) (not-waiting (setAt s waitsByte) e (serial s h .waiting));
+    waiting = λ e. eqb-true _ 0 (no-third (setAt s waitsByte) (not-set waitsByte e) (serial s h .waiting));
   }
     where
       not-set : (i : ℕ) → byteAt s i ≡ 0 → setAt s i ≡ false
@@ -121,6 +126,16 @@ module _ (s : List ℕ) (h : accepts s ≡ true) where
       no-second zero e k = eqb-true (tripleAt s nextByte) 0 (and-both (eqb (tripleAt s nextByte) 0) (eqb (tripleAt s oldestByte) 0) k .0)
       no-second (suc zero) e k = eqb-true (tripleAt s nextByte) 0 k
       no-second (suc (suc n)) e k = absurd (omega (arith, e))
+
+      not-waiting : (t : Bool) → byteAt s heldByte < 2 → waitingFits (formatAt s) (receptionAt s) (byteAt s heldByte) t (tripleAt s thirdByte) ≡ true → t ≡ false
+      not-waiting true l k =
+          absurd (let e = eqb-true (byteAt s heldByte) 2 (and-both (eqb (byteAt s heldByte) 2) (eqb (votedBits (formatAt s) (receptionAt s)) 0) k .0) in omega arith)
+      not-waiting false l k = refl
+
+      no-third : (t : Bool) → t ≡ false → waitingFits (formatAt s) (receptionAt s) (byteAt s heldByte) t (tripleAt s thirdByte) ≡ true
+          → eqb (tripleAt s thirdByte) 0 ≡ true
+      no-third true e k = clash refl e
+      no-third false e k = k
 
   in-range : FieldsInRange s
   in-range = record {
@@ -192,6 +207,30 @@ module _ (s : List ℕ) (v : FieldsInRange s) (unused : (i : ℕ) → i < record
   places-test (suc (suc zero)) a b l = refl
   places-test (suc (suc (suc n))) a b l = absurd (omega arith)
 
+  -- with no frame under way no bit is decided
+  undecided : isNoReception (receptionAt s) ≡ true → votedBits (formatAt s) (receptionAt s) ≡ 0
+  undecided e =
+      let r = receptionAt s in
+      let a = and-both _ (eqb (r .splits) 0) e in
+      let b = and-both _ (eqb (r .word) 0) (a .0) in
+      let c = and-both _ (not (r .second)) (b .0) in
+      let w = three (eqb (r .bit) 0) (eqb (r .sample .0) 0) (not (r .first)) (c .0) in
+      let z = eqb-true (r .sample .0) 0 (w .1 .0) in
+      voted-before (formatAt s) r (omega arith) ∙ eqb-true (r .bit) 0 (w .0)
+
+  waiting-test : (receiving last : Bool) (n : ℕ) (waits : Bool) → n ≤ 2 → (waits ≡ true → n ≡ 2) → (waits ≡ false → tripleAt s thirdByte ≡ 0)
+      → (receiving ≡ false → isNoReception (receptionAt s) ≡ true)
+      → ValidWaiting (formatAt s) (samplerFrom receiving last (receptionAt s)) (placesFrom n waits (frameAt s oldestByte) (frameAt s nextByte) (frameAt s thirdByte))
+      → waitingFits (formatAt s) (receptionAt s) n waits (tripleAt s thirdByte) ≡ true
+  unfolding waitingFits samplerFrom placesFrom
+  waiting-test receiving last n false l t z i v = eq-eqb _ 0 (z refl)
+  waiting-test receiving last zero true l t z i v = absurd (let e = t refl in omega arith)
+  waiting-test receiving last (suc zero) true l t z i v = absurd (let e = t refl in omega arith)
+  waiting-test false last (suc (suc zero)) true l t z i v = and-pair _ _ refl (eq-eqb _ 0 (undecided (i refl)))
+  waiting-test true last (suc (suc zero)) true l t z i v =
+      and-pair _ _ refl (eq-eqb _ 0 (none-voted (formatAt s) (Receiving (receptionAt s)) (Three (frameAt s oldestByte) (frameAt s nextByte) (frameAt s thirdByte)) v refl))
+  waiting-test receiving last (suc (suc (suc n))) true l t z i v = absurd (omega arith)
+
   rests : (t : Bool) (x : Transmission) → isResting (shifterFrom t x) ≡ not t
   unfolding shifterFrom
   rests true x = refl
@@ -219,10 +258,24 @@ module _ (s : List ℕ) (v : FieldsInRange s) (unused : (i : ℕ) → i < record
       (ap₂ (λ (x y : Bool). pick x y true) (rests (setAt s sendingByte) (transmissionAt s)) (receives (setAt s receivingByte) (setAt s lastByte) (receptionAt s))
       ∙ in-shift (setAt s sendingByte) (setAt s receivingByte) ∙ e))
 
+  waiting-holds : waitingFits (formatAt s) (receptionAt s) (byteAt s heldByte) (setAt s waitsByte) (tripleAt s thirdByte) ≡ true
+  waiting-holds =
+      let l = within heldByte (omega arith) in
+      waiting-test (setAt s receivingByte) (setAt s lastByte) (byteAt s heldByte) (setAt s waitsByte) l two
+      (λ e. v .others .waiting (flag-off waitsByte (within waitsByte (omega arith)) e))
+      (λ e. no-reception (flag-off receivingByte (within receivingByte (omega arith)) e))
+      (v .device .usart .receiver .waiting)
+    where
+      two : setAt s waitsByte ≡ true → byteAt s heldByte ≡ 2
+      two e = elim (decLt (byteAt s heldByte) 2) [
+        | yes k ↦ absurd (let z = v .others .waits k in let o = eqb-true (byteAt s waitsByte) 1 e in omega arith)
+        | no k ↦ let l = within heldByte (omega arith) in omega arith
+      ]
+
   enabled-holds : enabledFits (controlAt s .rxen) (setAt s receivingByte) (setAt s lastByte) (byteAt s heldByte) (setAt s lostByte) ≡ true
   enabled-holds =
       let q = sampler-shown (formatAt s) (setAt s receivingByte) (setAt s lastByte) (receptionAt s) sampler-holds in
-      let n = places-count (byteAt s heldByte) (frameAt s oldestByte) (frameAt s nextByte) (within heldByte (omega arith)) in
+      let n = places-count (byteAt s heldByte) (setAt s waitsByte) (frameAt s oldestByte) (frameAt s nextByte) (frameAt s thirdByte) (within heldByte (omega arith)) in
       sym (ap₂ (λ (x y : Bool). enabledFits (controlAt s .rxen) x y (byteAt s heldByte) (setAt s lostByte)) (q .0) (q .1 .0))
       ∙ sym (ap (λ (k : ℕ). enabledFits (controlAt s .rxen) (isReceiving (samplerAt s)) (rememberedIn (samplerAt s)) k (setAt s lostByte)) n)
       ∙ enabled-fits (controlAt s .rxen) (receiverAt s) (v .device .usart .disabled)
@@ -236,6 +289,7 @@ module _ (s : List ℕ) (v : FieldsInRange s) (unused : (i : ℕ) → i < record
         shifter-test (setAt s sendingByte) (v .device .usart .sender .shifter) (λ e. v .others .sent (flag-off sendingByte (within sendingByte (omega arith)) e)),
         sampler-holds,
         places-test (byteAt s heldByte) (v .others .oldest) (v .others .second) (within heldByte (omega arith)),
+        waiting-holds,
       )
       enabled-holds
 

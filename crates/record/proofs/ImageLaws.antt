@@ -27,7 +27,7 @@ use Rattle.usart.specs.declared.sampler.Reception.{Reception}
 use Rattle.usart.specs.declared.sampler.Sampler.{Sampler}
 use Rattle.usart.specs.declared.sampler.Sampler.the-variants.{Idle, Receiving}
 use Rattle.usart.specs.declared.queue.Places.{Places}
-use Rattle.usart.specs.declared.queue.Places.the-variants.{Empty, One, Two}
+use Rattle.usart.specs.declared.queue.Places.the-variants.{Empty, One, Two, Three}
 use Rattle.usart.specs.declared.unit.Control.{Control}
 use Rattle.spi.specs.Control.{half, divisorNumber}
 use Rattle.spi.specs.declared.control.Control.{Control as SpiControl}
@@ -37,19 +37,19 @@ use Rattle.spi.proofs.DivisorLaws.{half-of}
 use Rattle.device.specs.Valid.{Valid}
 use Rattle.device.specs.declared.unit.Device.{Device}
 use Rattle.usart.proofs.TallyLaws.{voted-before, voted-after}
-use Rattle.record.specs.Layout.{most, byteAt, wordAt, setAt, low, high}
-use Rattle.record.specs.Layout.{sendingByte, receivingByte, lastByte, fullByte, dataByte, heldByte, lostByte}
+use Rattle.record.specs.Layout.{most, byteAt, wordAt, tripleAt, setAt, low, high}
+use Rattle.record.specs.Layout.{sendingByte, receivingByte, lastByte, fullByte, dataByte, heldByte, waitsByte, lostByte, thirdByte}
 use Rattle.record.specs.Codes.{flagCode}
 use Rattle.record.specs.Parts.{transmissionIn, rememberedIn, receptionIn, heldCount, senderParts, receiverParts}
 use Rattle.record.specs.Image.{bit, ucsr0a, ucsr0b, ucsr0c, imageOf}
 use Rattle.record.specs.Lift.{baudAt, formatAt, controlAt, transmissionAt, receptionAt}
-use Rattle.record.specs.Accepts.{isWithin, settingsFit, counterFits, bufferFits, shifterFits, samplerFits, enabledFits, usartFits, spiFits, accepts}
+use Rattle.record.specs.Accepts.{isWithin, settingsFit, counterFits, bufferFits, shifterFits, samplerFits, waitingFits, enabledFits, usartFits, spiFits, accepts}
 use Rattle.record.proofs.ListLaws.{and-pair}
 use Rattle.record.proofs.RegisterLaws.{none-else, code-again, marks-lt}
 use Rattle.record.proofs.CodeLaws.{flag-bit}
-use Rattle.record.proofs.LiftLaws.{data-lt, sent-lt, received-lt, valid-oldest, valid-second, baud-law, format-law, control-law, data-law, transmission-law, reception-law, spi-law}
+use Rattle.record.proofs.LiftLaws.{data-lt, sent-lt, received-lt, valid-oldest, valid-second, valid-third, baud-law, format-law, control-law, data-law, transmission-law, reception-law, spi-law}
 use Rattle.record.proofs.TestLaws.{counter-fits, buffer-fits, shifter-fits, sampler-fits}
-use Rattle.record.proofs.QueueLaws.{places-fit, enabled-fits}
+use Rattle.record.proofs.QueueLaws.{places-fit, waiting-fits, enabled-fits}
 use Rattle.record.proofs.SpiTestLaws.{spi-fits}
 
 -- a list within another, number for number
@@ -82,6 +82,7 @@ held-le : (p : Places) → heldCount p ≤ 2
 held-le Empty = omega arith
 held-le (One a) = omega arith
 held-le (Two a b) = omega arith
+held-le (Three a b c) = omega arith
 
 samples-le : (f : Format) → samples f ≤ 16
 samples-le f = let e = samples-half f in let r = first-vote-range f in omega arith
@@ -182,10 +183,11 @@ module _ (d : Device) (v : Valid d) where
       ▹ received-bit f (d .usart .receiver .sampler) s ▹ received-sample f (d .usart .receiver .sampler) s
       ▹ bit-le (r .reception .first) ▹ bit-le (r .reception .second)
       ▹ low-le (r .reception .word) ▹ high-10 (r .reception .word) (received-lt f (d .usart .receiver .sampler) s)
-      ▹ received-splits f (d .usart .receiver .sampler) s ▹ held-le q ▹ none ▹ bit-le (d .usart .receiver .queue .lost)
+      ▹ received-splits f (d .usart .receiver .sampler) s ▹ held-le q ▹ bit-le (r .waits) ▹ bit-le (d .usart .receiver .queue .lost)
       ▹ low-le (r .oldest .«data») ▹ marks-lt (r .oldest) ▹ valid-oldest q (v .usart .receiver .places) .splits
       ▹ low-le (r .second .«data») ▹ marks-lt (r .second) ▹ valid-second q (v .usart .receiver .places) .splits
-      ▹ none ▹ none ▹ none ▹ none ▹ none ▹ none
+      ▹ low-le (r .third .«data») ▹ marks-lt (r .third) ▹ valid-third q (v .usart .receiver .places) .splits
+      ▹ none ▹ none ▹ none
       ▹ none ▹ none ▹ none ▹ none ▹ none ▹ none ▹ none ▹ none
       ▹ le-255 _ (v .spi .spcr) ▹ bit-le (d .spi .control .spi2x) ▹ le-255 _ (v .spi .ddrb)
       ▹ le-255 _ (t .shift) ▹ le-255 _ (t .received) ▹ le-15 _ (t .edges) ▹ left-le (d .spi .control) (d .spi .transfer .left .0) (t .left)
@@ -216,6 +218,7 @@ module _ (d : Device) (v : Valid d) where
         shifter-image,
         sampler-image,
         places-fit q,
+        waiting-image,
       )
       enabled-image
     where
@@ -244,6 +247,14 @@ module _ (d : Device) (v : Valid d) where
           ∙ ap₂ (λ (g : Format) (r : Reception). samplerFits g (isReceiving (d .usart .receiver .sampler)) (rememberedIn (d .usart .receiver .sampler)) r)
           (format-law d v) (reception-law d v)
           ∙ sampler-fits (d .usart .format) (d .usart .receiver .sampler) (v .usart .receiver .sampler)
+
+      waiting-image : waitingFits (formatAt (imageOf d)) (receptionAt (imageOf d)) (byteAt (imageOf d) heldByte) (setAt (imageOf d) waitsByte) (tripleAt (imageOf d) thirdByte) ≡ true
+      waiting-image =
+          let p = d .usart .receiver .queue .places in
+          let z = tripleAt (imageOf d) thirdByte in
+          ap₂ (λ (g : Format) (r : Reception). waitingFits g r (heldCount p) (setAt (imageOf d) waitsByte) z) (format-law d v) (reception-law d v)
+          ∙ ap (λ (w : Bool). waitingFits (d .usart .format) (receptionIn (d .usart .receiver .sampler)) (heldCount p) w z) (flag-bit _)
+          ∙ waiting-fits (d .usart .format) (d .usart .receiver .sampler) p (v .usart .receiver .waiting)
 
       enabled-image : enabledFits (controlAt (imageOf d) .rxen) (setAt (imageOf d) receivingByte) (setAt (imageOf d) lastByte) (byteAt (imageOf d) heldByte) (setAt (imageOf d) lostByte) ≡ true
       enabled-image =

@@ -14,14 +14,15 @@ use Rattle.usart.specs.declared.sender.ShiftRegister.{ShiftRegister}
 use Rattle.usart.specs.declared.sender.ShiftRegister.the-variants.{Resting, Sending}
 use Rattle.usart.specs.declared.sampler.Sampler.{Sampler}
 use Rattle.usart.specs.declared.sampler.Sampler.the-variants.{Idle, Receiving}
+use Rattle.usart.specs.declared.queue.Frame.{Frame}
 use Rattle.usart.specs.declared.queue.Places.{Places}
-use Rattle.usart.specs.declared.queue.Places.the-variants.{Empty, One, Two}
+use Rattle.usart.specs.declared.queue.Places.the-variants.{Empty, One, Two, Three}
 use Rattle.device.specs.Valid.{Valid}
 use Rattle.device.specs.declared.unit.Device.{Device}
-use Rattle.record.specs.Layout.{ucsr0aByte, dataByte, oldestByte, nextByte, byteAt, wordAt}
-use Rattle.record.specs.Parts.{bufferData, bufferFrom, transmissionIn, shifterFrom, receptionIn, samplerFrom, secondIn, placesFrom}
+use Rattle.record.specs.Layout.{ucsr0aByte, dataByte, oldestByte, nextByte, thirdByte, byteAt, wordAt}
+use Rattle.record.specs.Parts.{bufferData, bufferFrom, transmissionIn, shifterFrom, receptionIn, samplerFrom, heldCount, secondIn, isWaiting, thirdIn, placesFrom}
 use Rattle.record.specs.Image.{imageOf}
-use Rattle.record.specs.Lift.{baudAt, formatAt, controlAt, bufferAt, transmissionAt, shifterAt, senderWith, senderAt, receptionAt, samplerAt, frameAt, queueWith, queueAt, usartAt, spiControlAt, flagsAt, pinsAt, spiAt, deviceAt}
+use Rattle.record.specs.Lift.{baudAt, formatAt, controlAt, bufferAt, transmissionAt, shifterAt, senderWith, senderAt, receptionAt, samplerAt, frameAt, placesAt, queueWith, queueAt, usartAt, spiControlAt, flagsAt, pinsAt, spiAt, deviceAt}
 use Rattle.record.proofs.CodeLaws.{data-limit, word-limit, word-parts, flag-bit, flag-again, buffer-again, shifter-again, sampler-again, places-again}
 use Rattle.record.proofs.RegisterLaws.{txc-again, format-again, control-again, frame-again}
 
@@ -46,11 +47,19 @@ pub valid-oldest : (p : Places) → ValidPlaces p → ValidFrame (oldestOf p)
 valid-oldest Empty v = valid-none
 valid-oldest (One a) v = v
 valid-oldest (Two a b) v = v .0
+valid-oldest (Three a b c) v = v .0
 
 pub valid-second : (p : Places) → ValidPlaces p → ValidFrame (secondIn p)
 valid-second Empty v = valid-none
 valid-second (One a) v = valid-none
 valid-second (Two a b) v = v .1
+valid-second (Three a b c) v = v .1 .0
+
+pub valid-third : (p : Places) → ValidPlaces p → ValidFrame (thirdIn p)
+valid-third Empty v = valid-none
+valid-third (One a) v = valid-none
+valid-third (Two a b) v = valid-none
+valid-third (Three a b c) v = v .1 .1
 
 module _ (d : Device) (v : Valid d) where
   pub baud-law : baudAt (imageOf d) ≡ d .usart .baud
@@ -103,17 +112,25 @@ module _ (d : Device) (v : Valid d) where
       ∙ ap (samplerFrom _ _) reception-law
       ∙ sampler-again (d .usart .receiver .sampler)
 
-  oldest-law : frameAt (imageOf d) oldestByte ≡ oldestOf (d .usart .receiver .queue .places)
-  oldest-law =
-      frame-again (oldestOf (d .usart .receiver .queue .places)) (valid-oldest (d .usart .receiver .queue .places) (v .usart .receiver .places) .«data»)
+  abbrev places : Places
+  places = d .usart .receiver .queue .places
 
-  second-law : frameAt (imageOf d) nextByte ≡ secondIn (d .usart .receiver .queue .places)
-  second-law =
-      frame-again (secondIn (d .usart .receiver .queue .places)) (valid-second (d .usart .receiver .queue .places) (v .usart .receiver .places) .«data»)
+  oldest-law : frameAt (imageOf d) oldestByte ≡ oldestOf places
+  oldest-law = frame-again (oldestOf places) (valid-oldest places (v .usart .receiver .places) .«data»)
+
+  second-law : frameAt (imageOf d) nextByte ≡ secondIn places
+  second-law = frame-again (secondIn places) (valid-second places (v .usart .receiver .places) .«data»)
+
+  third-law : frameAt (imageOf d) thirdByte ≡ thirdIn places
+  third-law = frame-again (thirdIn places) (valid-third places (v .usart .receiver .places) .«data»)
+
+  places-law : placesAt (imageOf d) ≡ places
+  places-law =
+      ap₂ (λ (w : Bool) (a : Frame). placesFrom (heldCount places) w a (frameAt (imageOf d) nextByte) (frameAt (imageOf d) thirdByte)) (flag-bit _) oldest-law
+      ∙ ap₂ (placesFrom (heldCount places) (isWaiting places) (oldestOf places)) second-law third-law ∙ places-again places
 
   queue-law : queueAt (imageOf d) ≡ d .usart .receiver .queue
-  queue-law =
-      ap (queueWith _) (ap₂ (placesFrom _) oldest-law second-law ∙ places-again (d .usart .receiver .queue .places)) ∙ simp (flag-bit)
+  queue-law = ap (queueWith _) places-law ∙ simp (flag-bit)
 
   usart-law : usartAt (imageOf d) ≡ d .usart
   usart-law = rw (baud-law, format-law, control-law, sender-law, sampler-law, queue-law)

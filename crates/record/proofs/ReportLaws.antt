@@ -10,7 +10,7 @@ use Rattle.usart.specs.Sender.{isVacant}
 use Rattle.usart.specs.Queue.{isEmpty}
 use Rattle.usart.specs.declared.queue.Frame.{Frame}
 use Rattle.usart.specs.declared.queue.Places.{Places}
-use Rattle.usart.specs.declared.queue.Places.the-variants.{One, Two}
+use Rattle.usart.specs.declared.queue.Places.the-variants.{One, Two, Three}
 use Rattle.device.specs.Unit.{splitVotes}
 use Rattle.record.specs.Layout.{recordLength, oldestByte, byteAt}
 use Rattle.record.specs.Parts.{bufferFrom, placesFrom}
@@ -19,10 +19,13 @@ use Rattle.record.specs.Accepts.{accepts, isRecord}
 use Rattle.record.proofs.ListLaws.{record-length}
 use Rattle.record.proofs.BytesLaws.{image-again}
 
-pub none-held : (n : ℕ) (a b : Frame) → isEmpty (placesFrom n a b) ≡ eqb n 0
+pub none-held : (n : ℕ) (waits : Bool) (a b c : Frame) → isEmpty (placesFrom n waits a b c) ≡ eqb n 0
 unfolding placesFrom
-none-held n a b = split (eqb n 0) (λ e. rw e)
-    (λ e. rw e (pick-ind (λ (p : Places). isEmpty p ≡ false) (eqb n 1) (One a) (Two a b) (λ _. refl) (λ _. refl)))
+none-held n waits a b c =
+    let F : Places → Type 0 = λ p. isEmpty p ≡ false in
+    split (eqb n 0) (λ e. rw e)
+    (λ e. rw e
+    (pick-ind F (eqb n 1) (One a) _ (λ _. refl) (λ _. pick-ind F waits (Three a b c) (Two a b) (λ _. refl) (λ _. refl))))
 
 pub not-full : (full : Bool) (d : ℕ) → isVacant (bufferFrom full d) ≡ not full
 unfolding bufferFrom

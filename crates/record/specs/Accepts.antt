@@ -19,7 +19,7 @@ use Rattle.spi.specs.Unit.{sckOf}
 use Rattle.spi.specs.Valid.{isFirstOut, firstBit}
 use Rattle.spi.specs.declared.unit.Spi.{Spi}
 use Rattle.record.specs.Layout.{recordLength, layoutNumber, layoutByte, ucsr0aByte, ucsr0bByte, ucsr0cByte, fullByte, dataByte, sendingByte}
-use Rattle.record.specs.Layout.{receivingByte, lastByte, heldByte, lostByte, oldestByte, nextByte, most, byteAt, wordAt, tripleAt, setAt}
+use Rattle.record.specs.Layout.{receivingByte, lastByte, heldByte, waitsByte, lostByte, oldestByte, nextByte, thirdByte, most, byteAt, wordAt, tripleAt, setAt}
 use Rattle.record.specs.Codes.{sizeCode}
 use Rattle.record.specs.Lift.{baudAt, formatAt, controlAt, transmissionAt, receptionAt, spiAt}
 
@@ -98,6 +98,11 @@ samplerFits f receiving last r = pick receiving (pick last false (receptionFits 
 unfoldable pub placesFit : ℕ → ℕ → ℕ → Bool
 placesFit n a b = pick (eqb n 2) true (pick (eqb n 1) (eqb b 0) (eqb b 0 && eqb a 0))
 
+-- M-103: one waits only with two held, and before the start bit of a frame under way is decided; where none waits its
+-- bytes are 0
+unfoldable pub waitingFits : Format → Reception → ℕ → Bool → ℕ → Bool
+waitingFits f r n waits c = pick waits (eqb n 2 && eqb (votedBits f r) 0) (eqb c 0)
+
 -- a disabled receiver is idle, remembers low, holds nothing and has lost nothing
 unfoldable pub enabledFits : Bool → Bool → Bool → ℕ → Bool → Bool
 enabledFits rxen receiving last n lost = pick rxen true (not receiving && not last && eqb n 0 && not lost)
@@ -111,6 +116,7 @@ usartFits b =
     ∷ shifterFits (formatAt b) (setAt b sendingByte) (transmissionAt b)
     ∷ samplerFits (formatAt b) (setAt b receivingByte) (setAt b lastByte) (receptionAt b)
     ∷ placesFit (byteAt b heldByte) (tripleAt b oldestByte) (tripleAt b nextByte)
+    ∷ waitingFits (formatAt b) (receptionAt b) (byteAt b heldByte) (setAt b waitsByte) (tripleAt b thirdByte)
     ∷ enabledFits (controlAt b .rxen) (setAt b receivingByte) (setAt b lastByte) (byteAt b heldByte) (setAt b lostByte)
     ∷ [])
 

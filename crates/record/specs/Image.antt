@@ -36,7 +36,7 @@ abbrev pub registersOf : Format → Control → Bool → Registers
 registersOf f c txc = record { a = ucsr0a f txc; b = ucsr0b f c; c = ucsr0c f }
 
 abbrev pub marksIn : ReceiverParts → Marks
-marksIn r = record { oldest = marksOf (r .oldest); second = marksOf (r .second) }
+marksIn r = record { oldest = marksOf (r .oldest); second = marksOf (r .second); third = marksOf (r .third) }
 
 abbrev pub flagCodes : Flags → FlagCodes
 flagCodes f = record { spif = flagCode (f .spif); wcol = flagCode (f .wcol) }
@@ -54,10 +54,11 @@ imageWith d k s r m g =
     ∷ s .transmission .bit ∷ s .transmission .sample .0
     ∷ bit (r .receiving) ∷ bit (r .last) ∷ r .reception .bit ∷ r .reception .sample .0
     ∷ bit (r .reception .first) ∷ bit (r .reception .second) ∷ low (r .reception .word) ∷ high (r .reception .word)
-    ∷ r .reception .splits ∷ r .held ∷ 0 ∷ bit (d .usart .receiver .queue .lost)
+    ∷ r .reception .splits ∷ r .held ∷ bit (r .waits) ∷ bit (d .usart .receiver .queue .lost)
     ∷ low (r .oldest .«data») ∷ m .oldest ∷ r .oldest .splits
     ∷ low (r .second .«data») ∷ m .second ∷ r .second .splits
-    ∷ 0 ∷ 0 ∷ 0 ∷ 0 ∷ 0 ∷ 0
+    ∷ low (r .third .«data») ∷ m .third ∷ r .third .splits
+    ∷ 0 ∷ 0 ∷ 0
     ∷ 0 ∷ 0 ∷ 0 ∷ 0 ∷ 0 ∷ 0 ∷ 0 ∷ 0
     ∷ d .spi .control .spcr ∷ bit (d .spi .control .spi2x) ∷ d .spi .control .ddrb
     ∷ d .spi .transfer .shift ∷ d .spi .transfer .received ∷ d .spi .transfer .edges ∷ d .spi .transfer .left .0

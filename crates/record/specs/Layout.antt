@@ -75,10 +75,13 @@ wordByte = 22
 abbrev pub splitsByte : ℕ
 splitsByte = 24
 
--- the frames held for reading: each its data's low byte, its marks, then its split votes
+-- the frames held for reading, and one that waits: each its data's low byte, its marks, then its split votes
 
 abbrev pub heldByte : ℕ
 heldByte = 25
+
+abbrev pub waitsByte : ℕ
+waitsByte = 26
 
 abbrev pub lostByte : ℕ
 lostByte = 27
@@ -88,6 +91,9 @@ oldestByte = 28
 
 abbrev pub nextByte : ℕ
 nextByte = 31
+
+abbrev pub thirdByte : ℕ
+thirdByte = 34
 
 -- the SPI
 
@@ -136,8 +142,8 @@ most =
     255 ∷ 15 ∷ 255 ∷ 15 ∷ 66 ∷ 253 ∷ 62 ∷ 0
     ∷ 1 ∷ 255 ∷ 1 ∷ 1 ∷ 255 ∷ 3 ∷ 12 ∷ 15
     ∷ 1 ∷ 1 ∷ 11 ∷ 15 ∷ 1 ∷ 1 ∷ 255 ∷ 3
-    ∷ 11 ∷ 2 ∷ 0 ∷ 1 ∷ 255 ∷ 15 ∷ 12 ∷ 255
-    ∷ 15 ∷ 12 ∷ 0 ∷ 0 ∷ 0 ∷ 0 ∷ 0 ∷ 0
+    ∷ 11 ∷ 2 ∷ 1 ∷ 1 ∷ 255 ∷ 15 ∷ 12 ∷ 255
+    ∷ 15 ∷ 12 ∷ 255 ∷ 15 ∷ 12 ∷ 0 ∷ 0 ∷ 0
     ∷ 0 ∷ 0 ∷ 0 ∷ 0 ∷ 0 ∷ 0 ∷ 0 ∷ 0
     ∷ 255 ∷ 1 ∷ 255 ∷ 255 ∷ 255 ∷ 15 ∷ 64 ∷ 2
     ∷ 2 ∷ 1 ∷ 1 ∷ 1 ∷ 0 ∷ 0 ∷ 0 ∷ 2

@@ -28,7 +28,7 @@ use Rattle.spi.specs.declared.unit.Pins.{Pins}
 use Rattle.spi.specs.declared.unit.Spi.{Spi}
 use Rattle.device.specs.declared.unit.Device.{Device}
 use Rattle.record.specs.Layout.{ubrrByte, leftByte, ucsr0aByte, ucsr0bByte, ucsr0cByte, fullByte, dataByte, sendingByte, sentWordByte, sentBitByte, sentTicksByte}
-use Rattle.record.specs.Layout.{receivingByte, lastByte, bitByte, samplesByte, firstByte, secondByte, wordByte, splitsByte, heldByte, lostByte, oldestByte, nextByte}
+use Rattle.record.specs.Layout.{receivingByte, lastByte, bitByte, samplesByte, firstByte, secondByte, wordByte, splitsByte, heldByte, waitsByte, lostByte, oldestByte, nextByte, thirdByte}
 use Rattle.record.specs.Layout.{spcrByte, spi2xByte, ddrbByte, shiftByte, receivedByte, edgesByte, clocksByte, spifByte, wcolByte, mosiByte, misoByte, sckByte}
 use Rattle.record.specs.Layout.{byteAt, wordAt, setAt}
 use Rattle.record.specs.Codes.{sizeCode, knownSize, frameFrom, flagOf}
@@ -84,12 +84,13 @@ receptionAt b =
 abbrev pub samplerAt : List ℕ → Sampler
 samplerAt b = samplerFrom (setAt b receivingByte) (setAt b lastByte) (receptionAt b)
 
--- the held frame whose bytes begin at i
+-- the frame whose bytes begin at i
 abbrev pub frameAt : List ℕ → ℕ → Frame
 frameAt b i = frameFrom (byteAt b i) (byteAt b (i + 1)) (byteAt b (i + 2))
 
 abbrev pub placesAt : List ℕ → Places
-placesAt b = placesFrom (byteAt b heldByte) (frameAt b oldestByte) (frameAt b nextByte)
+placesAt b =
+    placesFrom (byteAt b heldByte) (setAt b waitsByte) (frameAt b oldestByte) (frameAt b nextByte) (frameAt b thirdByte)
 
 abbrev pub queueWith : Bool → Places → Queue
 queueWith lost p = record { places = p; lost = lost }

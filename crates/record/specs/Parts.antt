@@ -1,6 +1,6 @@
 -- What the bytes hold of the parts that have cases: all 0 where a part is not in use, and the part again from them.
 use Prim.Native.Nat.{ℕ}
-use mathlib.Core.Bool.{Bool, false, not}
+use mathlib.Core.Bool.{Bool, true, false, not}
 use lib.Dec.{eqb}
 use Rattle.choice.specs.Pick.{pick}
 use Rattle.usart.specs.Sender.{isVacant, isResting}
@@ -17,7 +17,7 @@ use Rattle.usart.specs.declared.sampler.Sampler.{Sampler}
 use Rattle.usart.specs.declared.sampler.Sampler.the-variants.{Idle, Receiving}
 use Rattle.usart.specs.declared.queue.Frame.{Frame}
 use Rattle.usart.specs.declared.queue.Places.{Places}
-use Rattle.usart.specs.declared.queue.Places.the-variants.{Empty, One, Two}
+use Rattle.usart.specs.declared.queue.Places.the-variants.{Empty, One, Two, Three}
 use Rattle.usart.specs.declared.receiver.Receiver.{Receiver}
 use Rattle.record.specs.declared.parts.SenderParts.{SenderParts}
 use Rattle.record.specs.declared.parts.ReceiverParts.{ReceiverParts}
@@ -61,14 +61,29 @@ abbrev pub heldCount : Places → ℕ
 heldCount Empty = 0
 heldCount (One a) = 1
 heldCount (Two a b) = 2
+heldCount (Three a b c) = 2
 
 abbrev pub secondIn : Places → Frame
 secondIn Empty = noFrame
 secondIn (One a) = noFrame
 secondIn (Two a b) = b
+secondIn (Three a b c) = b
 
-unfoldable pub placesFrom : ℕ → Frame → Frame → Places
-placesFrom n a b = pick (eqb n 0) Empty (pick (eqb n 1) (One a) (Two a b))
+abbrev pub isWaiting : Places → Bool
+isWaiting Empty = false
+isWaiting (One a) = false
+isWaiting (Two a b) = false
+isWaiting (Three a b c) = true
+
+abbrev pub thirdIn : Places → Frame
+thirdIn Empty = noFrame
+thirdIn (One a) = noFrame
+thirdIn (Two a b) = noFrame
+thirdIn (Three a b c) = c
+
+-- n frames held, and one that waits or none
+unfoldable pub placesFrom : ℕ → Bool → Frame → Frame → Frame → Places
+placesFrom n waits a b c = pick (eqb n 0) Empty (pick (eqb n 1) (One a) (pick waits (Three a b c) (Two a b)))
 
 abbrev pub receiverParts : Receiver → ReceiverParts
 receiverParts r =
@@ -79,4 +94,6 @@ receiverParts r =
       held = heldCount (r .queue .places);
       oldest = oldestOf (r .queue .places);
       second = secondIn (r .queue .places);
+      waits = isWaiting (r .queue .places);
+      third = thirdIn (r .queue .places);
     }

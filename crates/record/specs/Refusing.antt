@@ -11,7 +11,7 @@ use Rattle.usart.specs.Settings.{isKnown, sizeOf}
 use Rattle.device.specs.Valid.{Valid}
 use Rattle.record.specs.Layout.{recordLength, layoutNumber, layoutByte, ucsr0aByte, ucsr0bByte, ucsr0cByte, fullByte, dataByte, sendingByte}
 use Rattle.record.specs.Layout.{sentWordByte, sentBitByte, sentTicksByte, receivingByte, lastByte, bitByte, samplesByte, firstByte, secondByte}
-use Rattle.record.specs.Layout.{wordByte, splitsByte, heldByte, oldestByte, nextByte, most, byteAt, wordAt, tripleAt}
+use Rattle.record.specs.Layout.{wordByte, splitsByte, heldByte, waitsByte, oldestByte, nextByte, thirdByte, most, byteAt, wordAt, tripleAt}
 use Rattle.record.specs.Codes.{sizeCode}
 use Rattle.record.specs.Lift.{deviceAt}
 
@@ -35,6 +35,8 @@ pub record OthersZero (s : List ℕ) : Type 0 where
   pub splits : byteAt s receivingByte ≡ 0 → byteAt s splitsByte ≡ 0
   pub oldest : byteAt s heldByte ≡ 0 → tripleAt s oldestByte ≡ 0
   pub second : byteAt s heldByte < 2 → tripleAt s nextByte ≡ 0
+  pub waits : byteAt s heldByte < 2 → byteAt s waitsByte ≡ 0
+  pub waiting : byteAt s waitsByte ≡ 0 → tripleAt s thirdByte ≡ 0
 
 abbrev pub isUnused : ℕ → Bool
 isUnused i = eqb (getD most i 0) 0

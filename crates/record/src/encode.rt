@@ -20,10 +20,11 @@ pub struct Registers {
     pub c: u8,
 }
 
-// The marks of the frames held.
+// The marks of the frames held, and of the one that waits.
 pub struct Marks {
     pub oldest: u8,
     pub second: u8,
+    pub third: u8,
 }
 
 pub struct FlagCodes {
@@ -73,9 +74,11 @@ fn marks_in(r: ReceiverParts) -> Marks
 {
     let a = r.oldest;
     let b = r.second;
+    let c = r.third;
     Marks {
         oldest: marks(a),
         second: marks(b),
+        third: marks(c),
     }
 }
 
@@ -128,7 +131,7 @@ fn image_with(
         (r.reception.word / 256 % 256) as u8,
         r.reception.splits,
         r.held,
-        0,
+        r.waits as u8,
         d.usart.receiver.queue.lost as u8,
         (r.oldest.data % 256) as u8,
         m.oldest,
@@ -136,9 +139,9 @@ fn image_with(
         (r.second.data % 256) as u8,
         m.second,
         r.second.splits,
-        0,
-        0,
-        0,
+        (r.third.data % 256) as u8,
+        m.third,
+        r.third.splits,
         0,
         0,
         0,

@@ -48,15 +48,19 @@ pub const WORD: usize = 22;
 
 pub const SPLITS: usize = 24;
 
-// The frames held for reading: each its data's low byte, its marks, then its split votes.
+// The frames held for reading, and one that waits: each its data's low byte, its marks, then its split votes.
 
 pub const HELD: usize = 25;
+
+pub const WAITS: usize = 26;
 
 pub const LOST: usize = 27;
 
 pub const OLDEST: usize = 28;
 
 pub const NEXT: usize = 31;
+
+pub const THIRD: usize = 34;
 
 // The SPI.
 
@@ -92,8 +96,8 @@ pub const MOST: [u8; LENGTH] = [
     255, 15, 255, 15, 66, 253, 62, 0,
     1, 255, 1, 1, 255, 3, 12, 15,
     1, 1, 11, 15, 1, 1, 255, 3,
-    11, 2, 0, 1, 255, 15, 12, 255,
-    15, 12, 0, 0, 0, 0, 0, 0,
+    11, 2, 1, 1, 255, 15, 12, 255,
+    15, 12, 255, 15, 12, 0, 0, 0,
     0, 0, 0, 0, 0, 0, 0, 0,
     255, 1, 255, 255, 255, 15, 64, 2,
     2, 1, 1, 1, 0, 0, 0, 2,

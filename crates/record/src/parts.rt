@@ -9,7 +9,7 @@ use usart::Sender;
 use usart::ShiftRegister;
 use usart::Transmission;
 ghost use mathlib.Core.Path.{_≡_};
-ghost use Rattle.record.specs.Parts.{bufferData, bufferFrom, transmissionIn, shifterFrom, rememberedIn, receptionIn, samplerFrom, heldCount, secondIn, placesFrom, senderParts, receiverParts};
+ghost use Rattle.record.specs.Parts.{bufferData, bufferFrom, transmissionIn, shifterFrom, rememberedIn, receptionIn, samplerFrom, heldCount, secondIn, isWaiting, thirdIn, placesFrom, senderParts, receiverParts};
 
 // What the bytes hold of a sender, but TXC.
 pub struct SenderParts {
@@ -27,6 +27,8 @@ pub struct ReceiverParts {
     pub held: u8,
     pub oldest: Frame,
     pub second: Frame,
+    pub waits: bool,
+    pub third: Frame,
 }
 
 fn data(b: Buffer) -> u16
@@ -128,6 +130,7 @@ fn held(p: Places) -> u8
         Places::Empty => 0,
         Places::One(_) => 1,
         Places::Two(_, _) => 2,
+        Places::Three(_, _, _) => 2,
     }
 }
 
@@ -145,18 +148,51 @@ fn second(p: Places) -> Frame
         Places::Empty => none,
         Places::One(_) => none,
         Places::Two(_, b) => b,
+        Places::Three(_, b, _) => b,
+    }
+}
+
+fn waits(p: Places) -> bool
+    ensures { λ r. ⌜ r ≡ isWaiting p ⌝ }
+{
+    match p {
+        Places::Empty => false,
+        Places::One(_) => false,
+        Places::Two(_, _) => false,
+        Places::Three(_, _, _) => true,
+    }
+}
+
+fn third(p: Places) -> Frame
+    ensures { λ r. ⌜ r ≡ thirdIn p ⌝ }
+{
+    let none = Frame {
+        data: 0,
+        fe: false,
+        upe: false,
+        dor: false,
+        splits: 0,
+    };
+    match p {
+        Places::Empty => none,
+        Places::One(_) => none,
+        Places::Two(_, _) => none,
+        Places::Three(_, _, c) => c,
     }
 }
 
 // A count above 2 gives any places: a record that has one is refused before it is lifted.
-pub fn places_of(held: u8, a: Frame, b: Frame) -> Places
-    ensures { λ r. ⌜ r ≡ placesFrom held a b ⌝ }
+pub fn places_of(held: u8, waits: bool, a: Frame, b: Frame, c: Frame) -> Places
+    ensures { λ r. ⌜ r ≡ placesFrom held waits a b c ⌝ }
 {
     if held == 0 {
         return Places::Empty;
     }
     if held == 1 {
         return Places::One(a);
+    }
+    if waits {
+        return Places::Three(a, b, c);
     }
     Places::Two(a, b)
 }
@@ -174,5 +210,7 @@ pub fn receiver_parts(r: Receiver) -> ReceiverParts
         held: held(p),
         oldest: q.oldest(),
         second: second(p),
+        waits: waits(p),
+        third: third(p),
     }
 }

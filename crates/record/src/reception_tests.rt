@@ -3,6 +3,7 @@ use frame::Format;
 use usart::Reception;
 ghost use mathlib.Core.Path.{_≡_};
 ghost use Prim.Native.Nat.{_+_, _-_, _^_, _≤_};
+ghost use lib.Dec.{eqb};
 ghost use Rattle.frame.specs.Format.{wordBits};
 ghost use Rattle.usart.specs.Valid.{votedBits};
 ghost use Rattle.record.specs.Accepts.{receptionWithin, isUndecided, firstFits, secondFits, splitsFit, restFits, receptionFits, isNoReception};
@@ -67,6 +68,14 @@ fn splits_fit(f: Format, r: Reception) -> bool
         return r.splits <= r.bit;
     }
     less(r.splits, 1) <= r.bit
+}
+
+// The start bit is not decided yet. (With no frame under way nothing is.)
+pub fn none_decided(f: Format, r: Reception) -> bool
+    ensures { λ b. ⌜ b ≡ eqb (votedBits f r) 0 ⌝ }
+{
+    let last = f.first_vote() + 2;
+    (r.bit == 0) & (r.sample.0 < last)
 }
 
 // Bits of the word that have not come in; one more while the start bit is not decided.

@@ -14,6 +14,7 @@ use usart::Baud;
 use usart::Buffer;
 use usart::Clocks;
 use usart::Control;
+use usart::Frame;
 use usart::Places;
 use usart::Queue;
 use usart::Receiver;
@@ -25,9 +26,10 @@ use usart::ShiftRegister;
 use usart::Transmission;
 use usart::Usart;
 ghost use mathlib.Core.Path.{_≡_};
+ghost use Prim.Native.Nat.{_+_, _≤_};
 ghost use lib.ListN.{length};
 ghost use Rattle.record.specs.Layout.{recordLength};
-ghost use Rattle.record.specs.Lift.{baudAt, formatWith, formatOf, formatAt, controlOf, controlAt, bufferAt, transmissionAt, shifterAt, senderWith, senderAt, receptionAt, samplerAt, placesAt, queueWith, queueAt, receiverAt, usartAt};
+ghost use Rattle.record.specs.Lift.{baudAt, formatWith, formatOf, formatAt, controlOf, controlAt, bufferAt, transmissionAt, shifterAt, senderWith, senderAt, receptionAt, samplerAt, frameAt, placesAt, queueWith, queueAt, receiverAt, usartAt};
 
 pub(crate) fn baud_at(s: &[u8]) -> Baud
     requires { ⌜ length (now s) ≡ recordLength ⌝ }
@@ -161,17 +163,26 @@ fn sampler_at(s: &[u8]) -> Sampler
     )
 }
 
+// The frame whose bytes begin at i.
+fn frame_at(s: &[u8], i: usize) -> Frame
+    requires { ⌜ length (now s) ≡ recordLength ⌝ }
+    requires { ⌜ i + 3 ≤ recordLength ⌝ }
+    ensures { λ r. ⌜ r ≡ frameAt (now (s .entry)) i ⌝ }
+{
+    frame_of(s[i], s[i + 1], s[i + 2])
+}
+
 fn places_at(s: &[u8]) -> Places
     requires { ⌜ length (now s) ≡ recordLength ⌝ }
     ensures { λ r. ⌜ r ≡ placesAt (now (s .entry)) ⌝ }
 {
-    let a = frame_of(
-        s[layout::OLDEST],
-        s[layout::OLDEST + 1],
-        s[layout::OLDEST + 2],
-    );
-    let b = frame_of(s[layout::NEXT], s[layout::NEXT + 1], s[layout::NEXT + 2]);
-    places_of(s[layout::HELD], a, b)
+    places_of(
+        s[layout::HELD],
+        s[layout::WAITS] == 1,
+        frame_at(s, layout::OLDEST),
+        frame_at(s, layout::NEXT),
+        frame_at(s, layout::THIRD),
+    )
 }
 
 fn queue_with(lost: bool, places: Places) -> Queue

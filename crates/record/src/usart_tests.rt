@@ -5,6 +5,7 @@ use crate::codes::triple;
 use crate::codes::word;
 use crate::layout;
 use crate::reception_tests::no_reception;
+use crate::reception_tests::none_decided;
 use crate::reception_tests::reception_fits;
 use crate::usart_lift::baud_at;
 use crate::usart_lift::format_at;
@@ -15,10 +16,11 @@ use usart::Baud;
 use usart::Reception;
 use usart::Transmission;
 ghost use mathlib.Core.Path.{_≡_};
+ghost use Prim.Native.Nat.{_+_, _≤_};
 ghost use lib.ListN.{length};
-ghost use Rattle.record.specs.Layout.{recordLength, ucsr0aByte, ucsr0bByte, ucsr0cByte, fullByte, dataByte, sendingByte, receivingByte, lastByte, heldByte, lostByte, oldestByte, nextByte, byteAt, wordAt, tripleAt, setAt};
+ghost use Rattle.record.specs.Layout.{recordLength, ucsr0aByte, ucsr0bByte, ucsr0cByte, fullByte, dataByte, sendingByte, receivingByte, lastByte, heldByte, waitsByte, lostByte, oldestByte, nextByte, thirdByte, byteAt, wordAt, tripleAt, setAt};
 ghost use Rattle.record.specs.Lift.{baudAt, controlAt, transmissionAt, receptionAt};
-ghost use Rattle.record.specs.Accepts.{settingsFit, counterFits, bufferFits, transmissionFits, isNoTransmission, shifterFits, samplerFits, placesFit, enabledFits, usartFits};
+ghost use Rattle.record.specs.Accepts.{settingsFit, counterFits, bufferFits, transmissionFits, isNoTransmission, shifterFits, samplerFits, placesFit, waitingFits, enabledFits, usartFits};
 
 // UCSR0A, B and C have no bits but their settings', and no reserved one.
 fn settings_of(a: u8, b: u8, c: u8) -> bool
@@ -112,6 +114,16 @@ fn places_test(held: u8, oldest: u32, second: u32) -> bool
     (second == 0) & (oldest == 0)
 }
 
+// A frame waits only with two held, and before the start bit of a frame under way is decided.
+fn waiting_test(f: Format, r: Reception, held: u8, waits: bool, third: u32) -> bool
+    ensures { λ b. ⌜ b ≡ waitingFits f r held waits third ⌝ }
+{
+    if waits {
+        return (held == 2) & none_decided(f, r);
+    }
+    third == 0
+}
+
 // A disabled receiver is idle, remembers low, holds nothing and has lost nothing.
 fn enabled_test(rxen: bool, receiving: bool, last: bool, held: u8, lost: bool) -> bool
     ensures { λ r. ⌜ r ≡ enabledFits rxen receiving last held lost ⌝ }
@@ -163,17 +175,37 @@ fn sampler_fits(s: &[u8], f: Format) -> bool
     )
 }
 
+// The bytes of the frame that begin at i, as one number.
+fn triple_at(s: &[u8], i: usize) -> u32
+    requires { ⌜ length (now s) ≡ recordLength ⌝ }
+    requires { ⌜ i + 3 ≤ recordLength ⌝ }
+    ensures { λ r. ⌜ r ≡ tripleAt (now (s .entry)) i ⌝ }
+{
+    triple(s[i], s[i + 1], s[i + 2])
+}
+
 fn places_fit(s: &[u8]) -> bool
     requires { ⌜ length (now s) ≡ recordLength ⌝ }
     ensures { λ r. ⌜ r ≡ placesFit (byteAt (now (s .entry)) heldByte) (tripleAt (now (s .entry)) oldestByte) (tripleAt (now (s .entry)) nextByte) ⌝ }
 {
-    let a = triple(
-        s[layout::OLDEST],
-        s[layout::OLDEST + 1],
-        s[layout::OLDEST + 2],
-    );
-    let b = triple(s[layout::NEXT], s[layout::NEXT + 1], s[layout::NEXT + 2]);
-    places_test(s[layout::HELD], a, b)
+    places_test(
+        s[layout::HELD],
+        triple_at(s, layout::OLDEST),
+        triple_at(s, layout::NEXT),
+    )
+}
+
+fn waiting_fits(s: &[u8], f: Format) -> bool
+    requires { ⌜ length (now s) ≡ recordLength ⌝ }
+    ensures { λ r. ⌜ r ≡ waitingFits f (receptionAt (now (s .entry))) (byteAt (now (s .entry)) heldByte) (setAt (now (s .entry)) waitsByte) (tripleAt (now (s .entry)) thirdByte) ⌝ }
+{
+    waiting_test(
+        f,
+        reception_at(s),
+        s[layout::HELD],
+        s[layout::WAITS] == 1,
+        triple_at(s, layout::THIRD),
+    )
 }
 
 fn enabled_fits(s: &[u8]) -> bool
@@ -209,6 +241,9 @@ pub(crate) fn usart_fits(s: &[u8]) -> bool
         return false;
     }
     if !places_fit(s) {
+        return false;
+    }
+    if !waiting_fits(s, f) {
         return false;
     }
     enabled_fits(s)

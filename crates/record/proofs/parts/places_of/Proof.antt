@@ -15,5 +15,9 @@ returns-3 : tie.Need-returns-3
 unfolding placesFrom
 returns-3 c = search picks
 
+returns-4 : tie.Need-returns-4
+unfolding placesFrom
+returns-4 c = search picks
+
 pub places-of-spec : {M : Type 1} → statement M
-places-of-spec = tie.close (tie.spec returns returns-2 returns-3)
+places-of-spec = tie.close (tie.spec returns returns-2 returns-3 returns-4)

@@ -26,7 +26,11 @@ returns-5 c = rw (← c .before .before .before .before .before .before .before 
 
 returns-6 : tie.Need-returns-6
 unfolding usartFits
-returns-6 c = rw (← c .before .before .before .before .before .before .before .before .before .before .before .format-at .ensures) (holds _ _ (c .before .before .before .before .before .before .before .before .before .before .counter-fits .ensures) (c .before .before .before .before .before .before .before .before .before .if1 .left) (holds _ _ (c .before .before .before .before .before .before .before .before .buffer-fits .ensures) (c .before .before .before .before .before .before .before .if2 .left) (holds _ _ (c .before .before .before .before .before .before .shifter-fits .ensures) (c .before .before .before .before .before .if3 .left) (holds _ _ (c .before .before .before .before .sampler-fits .ensures) (c .before .before .before .if4 .left) (holds _ _ (c .before .before .places-fit .ensures) (c .before .if5 .left) (c .enabled-fits .ensures))))))
+returns-6 c = rw (← c .before .before .before .before .before .before .before .before .before .before .before .before .format-at .ensures) (holds _ _ (c .before .before .before .before .before .before .before .before .before .before .before .counter-fits .ensures) (c .before .before .before .before .before .before .before .before .before .before .if1 .left) (holds _ _ (c .before .before .before .before .before .before .before .before .before .buffer-fits .ensures) (c .before .before .before .before .before .before .before .before .if2 .left) (holds _ _ (c .before .before .before .before .before .before .before .shifter-fits .ensures) (c .before .before .before .before .before .before .if3 .left) (holds _ _ (c .before .before .before .before .before .sampler-fits .ensures) (c .before .before .before .before .if4 .left) (holds _ _ (c .before .before .before .places-fit .ensures) (c .before .before .if5 .left) (fails _ _ (c .before .waiting-fits .ensures) (c .if6 .taken)))))))
+
+returns-7 : tie.Need-returns-7
+unfolding usartFits
+returns-7 c = rw (← c .before .before .before .before .before .before .before .before .before .before .before .before .before .format-at .ensures) (holds _ _ (c .before .before .before .before .before .before .before .before .before .before .before .before .counter-fits .ensures) (c .before .before .before .before .before .before .before .before .before .before .before .if1 .left) (holds _ _ (c .before .before .before .before .before .before .before .before .before .before .buffer-fits .ensures) (c .before .before .before .before .before .before .before .before .before .if2 .left) (holds _ _ (c .before .before .before .before .before .before .before .before .shifter-fits .ensures) (c .before .before .before .before .before .before .before .if3 .left) (holds _ _ (c .before .before .before .before .before .before .sampler-fits .ensures) (c .before .before .before .before .before .if4 .left) (holds _ _ (c .before .before .before .before .places-fit .ensures) (c .before .before .before .if5 .left) (holds _ _ (c .before .before .waiting-fits .ensures) (c .before .if6 .left) (c .enabled-fits .ensures)))))))
 
 pub usart-fits-spec : {M : Type 1} → statement M
-usart-fits-spec = tie.close (tie.spec (λ c κs. search needs) (λ c κs. search needs) returns (λ c κs. search needs) returns-2 (λ c κs. search needs) returns-3 (λ c κs. search needs) returns-4 (λ c κs. search needs) returns-5 (λ c κs. search needs) returns-6)
+usart-fits-spec = tie.close (tie.spec (λ c κs. search needs) (λ c κs. search needs) returns (λ c κs. search needs) returns-2 (λ c κs. search needs) returns-3 (λ c κs. search needs) returns-4 (λ c κs. search needs) returns-5 (λ c κs. search needs) returns-6 (λ c κs. search needs) returns-7)
