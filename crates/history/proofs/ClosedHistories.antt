@@ -7,12 +7,12 @@ use lib.Dec.{eqb}
 use borrow.Author.Tests.{eqb-true}
 use Rattle.choice.specs.Pick.{pick}
 use Rattle.choice.proofs.Picks.{clash, both}
-use Rattle.usart.proofs.ClosedLists.{free, free-free}
+use Rattle.usart.proofs.ClosedLists.{noneWaits, none-waits}
 use Rattle.device.specs.Address.{placeOf}
 use Rattle.device.specs.Serial.{isSerial, clocksOf}
 use Rattle.warpmagpie.specs.Calls.{writeAnswer}
 use Rattle.history.specs.Call.{Call, reset, write, read, vector, pass, effect, recordAfter, Throughout, usartOf, OnlyDataCall, OnlyData}
-use Rattle.history.specs.Receiving.{Free}
+use Rattle.history.specs.Receiving.{NoneWaits}
 
 -- a test of each call, on the record that it finds
 unfoldable pub throughout : (List ℕ → Call → Bool) → List ℕ → List Call → Bool
@@ -48,10 +48,10 @@ only-call s (pass p) e = tt
 pub only-all : (s : List ℕ) (cs : List Call) → throughout only s cs ≡ true → OnlyData s cs
 only-all = all-of OnlyDataCall only only-call
 
--- a place is free whenever a frame completes
+-- none waits when a start bit is accepted
 unfoldable pub roomy : List ℕ → Call → Bool
-roomy s c = free (usartOf s) (clocksOf (effect s c .levels))
+roomy s c = noneWaits (usartOf s) (clocksOf (effect s c .levels))
 
-pub roomy-all : (s : List ℕ) (cs : List Call) → throughout roomy s cs ≡ true → Free s cs
+pub roomy-all : (s : List ℕ) (cs : List Call) → throughout roomy s cs ≡ true → NoneWaits s cs
 unfolding roomy
-roomy-all = all-of _ roomy (λ s c e. free-free (usartOf s) (clocksOf (effect s c .levels)) e)
+roomy-all = all-of _ roomy (λ s c e. none-waits (usartOf s) (clocksOf (effect s c .levels)) e)

@@ -14,7 +14,7 @@ use Rattle.frame.proofs.FormatLaws.{word-bits-range, stop-bits-range}
 use Rattle.usart.specs.Baud.{leftOf}
 use Rattle.usart.specs.Bit.{BitLasts}
 use Rattle.usart.specs.Line.{lineLevel}
-use Rattle.usart.specs.Marked.{sending as unitSending, statusBits as unitBits}
+use Rattle.usart.specs.Marked.{sending as unitSending, statusBits as unitBits, fourFrames}
 use Rattle.usart.specs.Read.{ucsr0a}
 use Rattle.usart.specs.Receiver.{listenedOf, enabledOf}
 use Rattle.usart.specs.Sampler.{idleOf, castOf, nextBitOf, shiftedOf, tallyOf, decidedOf, votedOf, sampledOf, samplerOf}
@@ -32,7 +32,7 @@ use Rattle.device.specs.Address.{placeOf}
 use Rattle.device.specs.Run.{ranOf}
 use Rattle.device.specs.Unit.{clockOf}
 use Rattle.device.specs.declared.unit.Device.{Device}
-use Rattle.history.specs.Marked.{M1, M2, M4, M6, M8, M9, M10, sending, statusBits, fourFrames, lineFrom, listening, heard, overrun, cases, Each}
+use Rattle.history.specs.Marked.{M1, M2, M4, M6, M8, M9, M10, sending, statusBits, lineFrom, listening, heard, readAt, cases, Each}
 
 m1 : M1
 m1 u e q = subst (λ (n : ℕ). BitLasts n u) (rw (e, q)) (bit-lasts u)
@@ -78,8 +78,8 @@ m9 = (
 )
 
 m10 : M10
-unfolding overrun heard listening lineFrom fourFrames ranOf placeOf leftOf steppedOf listenedOf enabledOf isBusy serialClock formattedOf txcCleared writeA sizeOf frameBit lineLevel byModeOf sumOfBits idleOf castOf nextBitOf shiftedOf tallyOf decidedOf votedOf sampledOf samplerOf parityError
-m10 = refl
+unfolding readAt heard listening lineFrom fourFrames ranOf placeOf leftOf steppedOf listenedOf enabledOf isBusy serialClock formattedOf txcCleared writeA sizeOf frameBit lineLevel byModeOf sumOfBits idleOf castOf nextBitOf shiftedOf tallyOf decidedOf votedOf sampledOf samplerOf parityError
+m10 = ((refl, refl), (refl, refl))
 
 pub marked : Each cases
 unfolding sumOfBits

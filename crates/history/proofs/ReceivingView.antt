@@ -10,14 +10,14 @@ use Rattle.choice.specs.Pick.{pick}
 use Rattle.choice.proofs.Picks.{clash}
 use Rattle.usart.specs.Event.{Event, isRefused, isUdr0, levelsOf, OnlyData as OnlyDataAt}
 use Rattle.usart.specs.Read.{splitVotes as serialSplitVotes, readOf as serialReadOf}
-use Rattle.usart.specs.Receiving.{Seen, Free as FreeAt, seenBy as seenAt, readsOf as readsIn, entriesOf as entriesAt}
+use Rattle.usart.specs.Receiving.{Seen, NoneWaits as NoneWaitsAt, seenBy as seenAt, readsOf as readsIn, arrivalsOf as arrivalsAt}
 use Rattle.usart.specs.Unit.{clockOf}
 use Rattle.usart.specs.Write.{writeOf as serialWriteOf}
 use Rattle.usart.specs.declared.unit.Usart.{Usart}
 use Rattle.usart.specs.declared.write.Register.the-variants.{Ucsr0a, Ucsr0b, Udr0}
 use Rattle.usart.specs.declared.write.Written.{Written as SerialWritten}
 use Rattle.usart.specs.declared.write.Written.the-variants.{Done as SerialDone, Refused as SerialRefused}
-use Rattle.usart.proofs.AppendLaws.{levels-append, only-append, free-append, reads-append, entries-append}
+use Rattle.usart.proofs.AppendLaws.{levels-append, only-append, none-waits-append, reads-append, arrivals-append}
 use Rattle.device.specs.Address.{placeOf}
 use Rattle.device.specs.Outcome.{answerOf, valueOf}
 use Rattle.device.specs.Register.{serialWritten, writeIn}
@@ -32,7 +32,7 @@ use Rattle.record.specs.Codec.{decodeOf}
 use Rattle.record.specs.declared.codec.Decoded.the-variants.{Accepted}
 use Rattle.warpmagpie.specs.Calls.{queryValueOn, readValue, splitVotesValue}
 use Rattle.history.specs.Call.{Call, reset, write, read, vector, pass, effect, recordAfter, Throughout, usartOf, OnlyDataCall, rxdLevels}
-use Rattle.history.specs.Receiving.{Free, seenBy, takenBy, readsOf, entriesOf}
+use Rattle.history.specs.Receiving.{NoneWaits, seenBy, takenBy, readsOf, arrivalsOf}
 use Rattle.history.proofs.StepLaws.{write-on, read-on}
 use Rattle.history.proofs.ViewLaws.{eventsOf, viewOf, events-are, Acts, usart-is, view}
 
@@ -42,19 +42,19 @@ rxd-view =
     view (λ j s c. map rxdIn (effect s c .levels)) (λ j u es. levelsOf es) (λ j u. refl) (λ j u es fs. levels-append es fs)
     (λ j s c a. events-are (λ ls es. map rxdIn ls ≡ levelsOf es) (λ ls. sym (levels-serial ls)) (λ r v. refl) (λ r. refl) refl s c) 0
 
--- only at a clock does a frame enter
-pub entries-view : (s : List ℕ) (cs : List Call) → Throughout Acts s cs → entriesOf s cs ≡ entriesAt 0 (usartOf s) (viewOf s cs)
-entries-view =
-    view (λ j s c. entriesAt j (usartOf s) (clocksOf (effect s c .levels))) entriesAt (λ j u. refl) entries-append
-    (λ j s c a. events-are (λ ls es. entriesAt j (usartOf s) (clocksOf ls) ≡ entriesAt j (usartOf s) es) (λ ls. refl) (λ r v. refl) (λ r. refl) refl s c) 0
+-- only at a clock does a frame complete
+pub arrivals-view : (s : List ℕ) (cs : List Call) → Throughout Acts s cs → arrivalsOf s cs ≡ arrivalsAt 0 (usartOf s) (viewOf s cs)
+arrivals-view =
+    view (λ j s c. arrivalsAt j (usartOf s) (clocksOf (effect s c .levels))) arrivalsAt (λ j u. refl) arrivals-append
+    (λ j s c a. events-are (λ ls es. arrivalsAt j (usartOf s) (clocksOf ls) ≡ arrivalsAt j (usartOf s) es) (λ ls. refl) (λ r v. refl) (λ r. refl) refl s c) 0
 
--- only clocks complete frames
-pub free-view : (s : List ℕ) (cs : List Call) → Throughout Acts s cs → Free s cs → FreeAt (usartOf s) (viewOf s cs)
-free-view s [] a f = tt
-free-view s (c ∷ cs) a f =
-    free-append (usartOf s) (eventsOf s c) (viewOf (recordAfter s c) cs)
-    (events-are (λ ls es. FreeAt (usartOf s) (clocksOf ls) → FreeAt (usartOf s) es) (λ ls g. g) (λ r v g. tt) (λ r g. tt) (λ g. tt) s c (f .0))
-    (subst (λ (u : Usart). FreeAt u (viewOf (recordAfter s c) cs)) (a .0 .next) (free-view (recordAfter s c) cs (a .1) (f .1)))
+-- only a clock accepts a start bit
+pub none-waits-view : (s : List ℕ) (cs : List Call) → Throughout Acts s cs → NoneWaits s cs → NoneWaitsAt (usartOf s) (viewOf s cs)
+none-waits-view s [] a f = tt
+none-waits-view s (c ∷ cs) a f =
+    none-waits-append (usartOf s) (eventsOf s c) (viewOf (recordAfter s c) cs)
+    (events-are (λ ls es. NoneWaitsAt (usartOf s) (clocksOf ls) → NoneWaitsAt (usartOf s) es) (λ ls g. g) (λ r v g. tt) (λ r g. tt) (λ g. tt) s c (f .0))
+    (subst (λ (u : Usart). NoneWaitsAt u (viewOf (recordAfter s c) cs)) (a .0 .next) (none-waits-view (recordAfter s c) cs (a .1) (f .1)))
 
 -- a write of another serial register than UDR0 is refused by the unit
 refused-in : (d : Device) (w : SerialWritten) → (answerOf (serialWritten d w) ≡ 0 → ⊥) → isRefused w ≡ true

@@ -1,7 +1,7 @@
 -- The theorems over histories are not empty: at each speed a closed history that meets every premise of demand 3, with
--- two frames at unequal crystals, and with refused calls, SPI traffic, reads, a write of UDR0, vectors and queries
--- among the runs. The same history is one of the sender's, and one that agrees with its serial side alone, which has no
--- query.
+-- four frames at unequal crystals, of which two wait, and with refused calls, SPI traffic, reads, a write of UDR0,
+-- vectors and queries among the runs. The same history is one of the sender's, and one that agrees with its serial side
+-- alone, which has no query.
 use Prim.Native.Nat.{ℕ, zero, suc, _+_, _-_, _*_}
 use mathlib.Core.Bool.{Bool, true, false}
 use mathlib.Core.List.{List, [], _∷_}
@@ -15,7 +15,7 @@ use Rattle.frame.specs.declared.format.Parity.the-variants.{Even}
 use Rattle.usart.specs.Baud.{leftOf}
 use Rattle.usart.specs.Line.{Sent, lineLevel}
 use Rattle.usart.specs.Receiver.{listenedOf}
-use Rattle.usart.specs.Receiving.{heldBy, LineOn, Delivered}
+use Rattle.usart.specs.Receiving.{LineOn}
 use Rattle.usart.specs.Sampler.{idleOf, castOf, nextBitOf, shiftedOf, tallyOf, decidedOf, votedOf, sampledOf, samplerOf}
 use Rattle.usart.specs.Sender.{steppedOf}
 use Rattle.usart.specs.Sending.{Sends}
@@ -26,7 +26,7 @@ use Rattle.usart.specs.declared.queue.Places.the-variants.{Empty}
 use Rattle.usart.specs.declared.sampler.Sampler.the-variants.{Idle}
 use Rattle.usart.specs.declared.sender.Buffer.the-variants.{Vacant}
 use Rattle.usart.specs.declared.sender.ShiftRegister.the-variants.{Resting}
-use Rattle.usart.proofs.ClosedLists.{bool-eqb, shown, shown-shows, room, free}
+use Rattle.usart.proofs.ClosedLists.{bool-eqb, shown, shown-shows, none, room, noneWaits}
 use Rattle.spi.specs.Unit.{resetSpi}
 use Rattle.spi.specs.Clock.{masterOf, byModeOf}
 use Rattle.spi.specs.Control.{divisorNumber, isModeFault}
@@ -45,12 +45,12 @@ use Rattle.device.specs.declared.unit.Device.{Device}
 use Rattle.record.specs.Codec.{recordOf, decodeOf}
 use Rattle.record.specs.Codes.{flagOf}
 use Rattle.record.specs.Parts.{bufferFrom, shifterFrom, samplerFrom, placesFrom}
-use Rattle.record.specs.Accepts.{isWithin, counterFits, bufferFits, shifterFits, isUndecided, firstFits, secondFits, receptionFits, samplerFits, placesFit, enabledFits, usartFits, outFits, masterFits, slaveFits, spiFits, accepts, isRecord}
+use Rattle.record.specs.Accepts.{isWithin, counterFits, bufferFits, shifterFits, isUndecided, firstFits, secondFits, receptionFits, samplerFits, placesFit, waitingFits, enabledFits, usartFits, outFits, masterFits, slaveFits, spiFits, accepts, isRecord}
 use Rattle.record.specs.declared.codec.Decoded.the-variants.{Accepted}
 use Rattle.warpmagpie.specs.Calls.{writeOn, readOn, vectorOn, runOn}
 use Rattle.holding.specs.Hold.{holdIn, holdOn}
 use Rattle.history.specs.Call.{run, hold, Call, write, read, vector, pass, report, splitVotes, finalRecord, Bytes, usartOf, OnlyData, rxdLevels}
-use Rattle.history.specs.Receiving.{Hears, readsOf, entriesOf}
+use Rattle.history.specs.Receiving.{Hears, DeliveredBy}
 use Rattle.history.specs.Sending.{MaySend, takenOf, txdLevels}
 use Rattle.history.specs.Serial.{serialParts, Alike, Agree}
 use Rattle.history.proofs.ClosedHistories.{throughout, only, only-all, roomy, roomy-all}
@@ -75,9 +75,11 @@ start u2x = record {
 abbrev scale : Bool → ℕ
 scale u2x = pick u2x 1 2
 
--- two frames; a bit of the sender is 8.13 or 16.26 clocks, 1.6 percent off
+-- four frames; a bit of the sender is 8.13 or 16.26 clocks, 1.6 percent off
 unfoldable pub frames : Bool → List Sent
-frames u2x = record { start = 3; «data» = 21 } ∷ record { start = 70 * scale u2x; «data» = 10 } ∷ []
+frames u2x =
+    record { start = 3; «data» = 21 } ∷ record { start = 70 * scale u2x; «data» = 10 } ∷ record { start = 137 * scale u2x; «data» = 31 }
+    ∷ record { start = 204 * scale u2x; «data» = 9 } ∷ []
 
 unfoldable pub level : Bool → ℕ → Bool
 level u2x j = lineLevel (start u2x .usart .format) (813 * scale u2x) 100 (frames u2x) j
@@ -95,15 +97,17 @@ abbrev pub runFor : Bool → ℕ → ℕ → Call
 runFor u2x j n = pass (run (line u2x j n) (blank n))
 
 -- a hold while the line is idle; in mid-frame: SPI set up as master with SPIE and a byte sent, every kind of refusal
--- but 5, a byte for the sender, a read of the empty buffer; the first frame is read while the second is on the line.
--- Reports are polled all along, and the split votes asked for before that read
+-- but 5, a byte for the sender, a read of the empty buffer. The first frame is read when the third waits, in the start
+-- bit of the fourth, before it is accepted: the read moves the third in. The fourth still waits at the end. Reports are
+-- polled all along, and the split votes asked for before that read
 unfoldable pub calls : Bool → List Call
 calls u2x =
     let n : ℕ = 20 * scale u2x in
-    let m : ℕ = 60 * scale u2x in
+    let m : ℕ = 187 * scale u2x in
+    let k : ℕ = 73 * scale u2x in
     pass (hold 17 3) ∷ runFor u2x 3 (n - 3) ∷ write 0x24 0x2C ∷ report ∷ write 0x4C 0xD0 ∷ write 0x4E 0xA5 ∷ report ∷ write 0x4E 0x5A ∷ write 0x4C 0x51 ∷ read 0x4D ∷ write 0xC4 7 ∷ write 0xC2 0xC0
     ∷ write 0xC2 0x16 ∷ write 0xC3 1 ∷ read 0x99 ∷ vector 0 ∷ vector 1 ∷ vector 7 ∷ pass (run (1 ∷ []) []) ∷ pass (run (33 ∷ []) (0 ∷ [])) ∷ pass (hold 33 0) ∷ pass (run [] []) ∷ report ∷ write 0xC6 85 ∷ read 0xC0
-    ∷ read 0xC6 ∷ runFor u2x n m ∷ report ∷ splitVotes ∷ read 0xC6 ∷ read 0x4E ∷ runFor u2x (n + m) m ∷ report ∷ []
+    ∷ read 0xC6 ∷ runFor u2x n m ∷ report ∷ splitVotes ∷ read 0xC6 ∷ read 0x4E ∷ runFor u2x (n + m) k ∷ report ∷ []
 
 bytes : (u2x : Bool) → Bytes (calls u2x)
 unfolding calls
@@ -114,9 +118,10 @@ bytes u2x =
 unfoldable pub quiet : Bool → List Call
 quiet u2x =
     let n : ℕ = 20 * scale u2x in
-    let m : ℕ = 60 * scale u2x in
+    let m : ℕ = 187 * scale u2x in
+    let k : ℕ = 73 * scale u2x in
     runFor u2x 0 7 ∷ runFor u2x 7 (n - 7) ∷ write 0xC4 7 ∷ write 0xC2 0xC0 ∷ write 0xC2 0x16 ∷ vector 0 ∷ write 0xC6 85 ∷ read 0xC0 ∷ read 0xC6 ∷ runFor u2x n 5
-    ∷ runFor u2x (n + 5) (m - 5) ∷ read 0xC6 ∷ runFor u2x (n + m) m ∷ []
+    ∷ runFor u2x (n + 5) (m - 5) ∷ read 0xC6 ∷ runFor u2x (n + m) k ∷ []
 
 quiet-bytes : (u2x : Bool) → Bytes (quiet u2x)
 unfolding quiet
@@ -132,7 +137,7 @@ record Found (u2x : Bool) (s : List ℕ) : Type 0 where
   same : serialParts s (calls u2x) ≡ serialParts s (quiet u2x)
 
 found : (u2x : Bool) → Found u2x (recordOf (start u2x))
-unfolding throughout only roomy start frames level line blank calls quiet shown free room bool-eqb lineLevel frameBit sumOfBits leftOf steppedOf idleOf castOf nextBitOf shiftedOf tallyOf decidedOf votedOf sampledOf samplerOf listenedOf isBusy clockOf sizeOf parityOf formattedOf writeC isReservedC sizedC timedOf transmittedOf serialVectorOf parityError placeOf ranOf areLevels vectorOf vectorsAt byModeOf masterOf divisorNumber isModeFault writeSpcr loadedOf spiVectorOf isUnderWay firstOut nextEdge edgedOf differs isRequested isSampling isPutting edgeOf outBit shiftedIn decodeOf recordOf isWithin counterFits bufferFits shifterFits isUndecided firstFits secondFits receptionFits samplerFits placesFit enabledFits usartFits outFits masterFits slaveFits spiFits accepts isRecord flagOf bufferFrom shifterFrom samplerFrom placesFrom writeOn readOn vectorOn runOn holdIn holdOn
+unfolding throughout only roomy start frames level line blank calls quiet shown noneWaits room none bool-eqb lineLevel frameBit sumOfBits leftOf steppedOf idleOf castOf nextBitOf shiftedOf tallyOf decidedOf votedOf sampledOf samplerOf listenedOf isBusy clockOf sizeOf parityOf formattedOf writeC isReservedC sizedC timedOf transmittedOf serialVectorOf parityError placeOf ranOf areLevels vectorOf vectorsAt byModeOf masterOf divisorNumber isModeFault writeSpcr loadedOf spiVectorOf isUnderWay firstOut nextEdge edgedOf differs isRequested isSampling isPutting edgeOf outBit shiftedIn decodeOf recordOf isWithin counterFits bufferFits shifterFits isUndecided firstFits secondFits receptionFits samplerFits placesFit waitingFits enabledFits usartFits outFits masterFits slaveFits spiFits accepts isRecord flagOf bufferFrom shifterFrom samplerFrom placesFrom writeOn readOn vectorOn runOn holdIn holdOn
 found true = record {
   valid = refl;
   only = refl;
@@ -141,8 +146,8 @@ found true = record {
     p1 = lit≤ tt;
     q1 = lit≤ tt;
     within = (lit≤ tt, lit≤ tt);
-    fits = (lit< tt, (lit< tt, tt));
-    spaced = (lit≤ tt, (tt, tt));
+    fits = (lit< tt, (lit< tt, (lit< tt, (lit< tt, tt))));
+    spaced = (lit≤ tt, (lit≤ tt, (lit≤ tt, (tt, tt))));
     shows = shown-shows (level true) 0 (rxdLevels (recordOf (start true)) (calls true)) refl;
     ended = lit≤ tt;
   };
@@ -156,8 +161,8 @@ found false = record {
     p1 = lit≤ tt;
     q1 = lit≤ tt;
     within = (lit≤ tt, lit≤ tt);
-    fits = (lit< tt, (lit< tt, tt));
-    spaced = (lit≤ tt, (tt, tt));
+    fits = (lit< tt, (lit< tt, (lit< tt, (lit< tt, tt))));
+    spaced = (lit≤ tt, (lit≤ tt, (lit≤ tt, (tt, tt))));
     shows = shown-shows (level false) 0 (rxdLevels (recordOf (start false)) (calls false)) refl;
     ended = lit≤ tt;
   };
@@ -179,13 +184,10 @@ witness u2x =
       bytes = bytes u2x;
       onlyData = onlyData u2x;
       line = found u2x .line;
-      free = roomy-all s cs (found u2x .roomy);
+      noneWaits = roomy-all s cs (found u2x .roomy);
     }
 
-pub witnessed : (u2x : Bool)
-    → Delivered (813 * scale u2x) 100 (frames u2x) (start u2x .usart .format) (readsOf (recordOf (start u2x)) (calls u2x))
-    (heldBy (usartOf (finalRecord (recordOf (start u2x)) (calls u2x))))
-    (entriesOf (recordOf (start u2x)) (calls u2x))
+pub witnessed : (u2x : Bool) → DeliveredBy (813 * scale u2x) 100 (frames u2x) (start u2x) (recordOf (start u2x)) (calls u2x)
 witnessed u2x = receives (813 * scale u2x) 100 (frames u2x) (start u2x) (recordOf (start u2x)) (calls u2x) (witness u2x)
 
 -- the same history is one of the sender's: it is given a byte in mid-frame

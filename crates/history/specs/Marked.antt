@@ -1,10 +1,11 @@
 -- The marked cases M1 to M10 of document 01, each of the rules' own definitions, in one list.
-use Prim.Native.Nat.{ℕ, zero, suc, _+_, _*_, _≤_}
+use Prim.Native.Nat.{ℕ, zero, suc, _+_, _-_, _*_, _≤_}
 use mathlib.Core.Bool.{true, false}
 use mathlib.Core.List.{List, [], _∷_, _++_}
 use mathlib.Core.Path.{_≡_}
+use lib.Dec.{eqb}
 use Rattle.choice.specs.Bit.{bitAt}
-use Rattle.choice.specs.Pick.{digit}
+use Rattle.choice.specs.Pick.{pick, digit}
 use Rattle.frame.specs.Format.{lastBit}
 use Rattle.frame.specs.Parity.{parityIn}
 use Rattle.frame.specs.Vote.{voteOf}
@@ -13,8 +14,8 @@ use Rattle.frame.specs.declared.format.Parity.the-variants.{Even}
 use Rattle.frame.specs.declared.format.Size.the-variants.{Nine}
 use Rattle.usart.specs.Bit.{BitLasts}
 use Rattle.usart.specs.Limit.{limit, Within}
-use Rattle.usart.specs.Line.{Sent, lineLevel}
-use Rattle.usart.specs.Marked.{zeros}
+use Rattle.usart.specs.Line.{lineLevel}
+use Rattle.usart.specs.Marked.{zeros, fourFrames}
 use Rattle.usart.specs.declared.unit.Usart.{Usart}
 use Rattle.spi.specs.Control.{divisorNumber}
 use Rattle.spi.specs.Event.{Event, clock, clocksIn, isUndisturbed}
@@ -94,12 +95,7 @@ WithinAt P = Within (limit false 9) (16 * (0 + 1) * 100) P
 abbrev pub M9 : Type 0
 M9 = (WithinAt 1577 × WithinAt 1624) × ((WithinAt 1576 → ⊥) × (WithinAt 1625 → ⊥))
 
--- M10's line: four frames, the data 1 to 4, at UBRR 0 and double speed
-unfoldable pub fourFrames : List Sent
-fourFrames =
-    record { start = 8; «data» = 1 } ∷ record { start = 96; «data» = 2 } ∷ record { start = 184; «data» = 3 } ∷ record { start = 272; «data» = 4 } ∷ []
-
--- the level bytes of n clocks of it, the first at clock j
+-- M10: the level bytes of n clocks of the line `fourFrames` of the serial unit, the first at clock j
 unfoldable pub lineFrom : Format → ℕ → ℕ → List ℕ
 lineFrom f j zero = []
 lineFrom f j (suc n) = digit (lineLevel f 8 1 fourFrames j) ∷ lineFrom f (suc j) n
@@ -111,22 +107,34 @@ listening = written (written resetDevice 0xC0 0x02) 0xC1 0x10
 unfoldable pub heard : Device → ℕ → ℕ → Device
 heard d j n = ranOf d (lineFrom (d .usart .format) j n)
 
--- a read of UDR0: its value, and DOR just before it
-abbrev pub valueAndDor : Device → List ℕ
-valueAndDor d = reads d 0xC6 ∷ bitAt (reads d 0xC0) 3 ∷ []
+-- what a read of UDR0 takes, with RXC set just before it: its value, and DOR just before it
+abbrev pub takenBy : Device → List ℕ
+takenBy d = pick (eqb (bitAt (reads d 0xC0) 7) 1) (reads d 0xC6 ∷ bitAt (reads d 0xC0) 3 ∷ []) []
 
 abbrev pub afterRead : Device → Device
 afterRead d = readSettled d (readOf d 0xC6)
 
--- M10: three frames unread, two reads, a fourth frame: reads give 1 and 2 without DOR, 4 with DOR
-unfoldable pub overrun : List ℕ
-overrun =
-    let three : Device = heard listening 0 270 in
-    let one : Device = afterRead three in
-    let four : Device = heard (afterRead one) 270 90 in valueAndDor three ++ valueAndDor one ++ valueAndDor four
+-- what is read: UDR0 twice before clock j, and twice when the line has ended
+unfoldable pub readAt : ℕ → List ℕ
+readAt j =
+    let one : Device = heard listening 0 j in
+    let two : Device = afterRead one in
+    let three : Device = heard (afterRead two) j (360 - j) in
+    takenBy one ++ takenBy two ++ takenBy three ++ takenBy (afterRead three)
 
+-- 1, 2, 3, 4 without DOR
+abbrev pub allFour : List ℕ
+allFour = 1 ∷ 0 ∷ 2 ∷ 0 ∷ 3 ∷ 0 ∷ 4 ∷ 0 ∷ []
+
+-- the third frame is gone, and the fourth carries DOR
+abbrev pub thirdLost : List ℕ
+thirdLost = 1 ∷ 0 ∷ 2 ∷ 0 ∷ 4 ∷ 1 ∷ []
+
+-- M10, as M-103 changes it: 'if its two reads come before the fourth frame's start, all four frames come out without
+-- DOR', and they still do before the last vote of that start, at clock 277. After it, and with all four unread (source
+-- 003), the third is gone
 abbrev pub M10 : Type 0
-M10 = overrun ≡ 1 ∷ 0 ∷ 2 ∷ 0 ∷ 4 ∷ 1 ∷ []
+M10 = ((readAt 272 ≡ allFour) × (readAt 277 ≡ allFour)) × ((readAt 278 ≡ thirdLost) × (readAt 360 ≡ thirdLost))
 
 abbrev pub cases : List (Type 0)
 cases = M1 ∷ M2 ∷ M3 ∷ M4 ∷ M5 ∷ M6 ∷ M7 ∷ M8 ∷ M9 ∷ M10 ∷ []

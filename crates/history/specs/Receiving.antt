@@ -1,5 +1,5 @@
--- Demand 3 (document 01, 'The line of demand 3'): what is asked of the record, the calls and the line, and what comes
--- of them (`Delivered` of the serial unit's, said of these).
+-- Demand 3 (document 01, 'The line of demand 3', as M-103 of document 02 changes it): what is asked of the record, the
+-- calls and the line, and what comes of them (`Delivered` of the serial unit's, said of these).
 use Prim.Native.Nat.{ℕ}
 use mathlib.Core.List.{List, [], _∷_}
 use mathlib.Core.Path.{_≡_}
@@ -7,27 +7,27 @@ use lib.Dec.{eqb}
 use Rattle.choice.specs.Bit.{bitAt}
 use Rattle.choice.specs.Pick.{pick}
 use Rattle.usart.specs.Line.{Sent}
-use Rattle.usart.specs.Receiving.{Ready, LineOn, Seen, Free as FreeAt, entriesOf as entriesAt}
+use Rattle.usart.specs.Receiving.{Ready, heldBy, waitingBy, LineOn, Seen, Arrival, Delivered, NoneWaits as NoneWaitsAt, arrivalsOf as arrivalsAt}
 use Rattle.device.specs.Serial.{clocksOf}
 use Rattle.device.specs.declared.unit.Device.{Device}
 use Rattle.record.specs.Codec.{decodeOf}
 use Rattle.record.specs.declared.codec.Decoded.the-variants.{Accepted}
 use Rattle.warpmagpie.specs.Calls.{readValue, splitVotesValue}
-use Rattle.history.specs.Call.{Call, reset, write, read, vector, pass, effect, along, gathered, Throughout, Bytes, usartOf, OnlyData, rxdLevels}
+use Rattle.history.specs.Call.{Call, reset, write, read, vector, pass, effect, along, gathered, Throughout, finalRecord, Bytes, usartOf, OnlyData, rxdLevels}
 
--- a place is free whenever a frame completes: at each clock that completes one, fewer than two are held
-abbrev pub Free : List ℕ → List Call → Type 0
-Free s cs = Throughout (λ s c. FreeAt (usartOf s) (clocksOf (effect s c .levels))) s cs
+-- M-103's room: none waits when a start bit is accepted, at no clock of the calls
+abbrev pub NoneWaits : List ℕ → List Call → Type 0
+NoneWaits s cs = Throughout (λ s c. NoneWaitsAt (usartOf s) (clocksOf (effect s c .levels))) s cs
 
 -- the line fs is what the clocks show to the device d of the record s, which is enabled, idle, with the last sample
--- high, nothing held and no loss pending
+-- high, nothing held, none waiting and no loss pending
 pub record Hears (P Q : ℕ) (fs : List Sent) (d : Device) (s : List ℕ) (cs : List Call) : Type 0 where
   pub valid : decodeOf s ≡ Accepted d
   pub ready : Ready (d .usart)
   pub bytes : Bytes cs
   pub onlyData : OnlyData s cs
   pub line : LineOn P Q fs (d .usart .format) (d .usart .baud .ubrr) (rxdLevels s cs)
-  pub free : Free s cs
+  pub noneWaits : NoneWaits s cs
 
 -- what a read of UDR0 answers, and what UCSR0B and UCSR0A read, and the call for split votes answers, just before it
 abbrev pub seenBy : List ℕ → Seen
@@ -52,6 +52,13 @@ takenBy s (pass p) = []
 abbrev pub readsOf : List ℕ → List Call → List Seen
 readsOf s cs = gathered takenBy s cs
 
--- the clocks at which frames enter the buffer, in order
-abbrev pub entriesOf : List ℕ → List Call → List ℕ
-entriesOf s cs = along (λ j s c. entriesAt j (usartOf s) (clocksOf (effect s c .levels))) 0 s cs
+-- the frames that complete, in order
+abbrev pub arrivalsOf : List ℕ → List Call → List Arrival
+arrivalsOf s cs = along (λ j s c. arrivalsAt j (usartOf s) (clocksOf (effect s c .levels))) 0 s cs
+
+-- what comes of the calls on the record s of the device d: the frames read, then those held in the last record, then one
+-- that still waits there, are the line's, in time
+abbrev pub DeliveredBy : ℕ → ℕ → List Sent → Device → List ℕ → List Call → Type 0
+DeliveredBy P Q fs d s cs =
+    let u = usartOf (finalRecord s cs) in
+    Delivered P Q fs (d .usart .format) (readsOf s cs) (heldBy u) (waitingBy u) (arrivalsOf s cs)

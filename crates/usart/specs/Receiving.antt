@@ -1,4 +1,5 @@
--- Demand 3 at the serial unit: what is asked of the unit, the list and the line, and what comes of them.
+-- Demand 3 at the serial unit, as M-103 of document 02 changes it: what is asked of the unit, the list and the line, and
+-- what comes of them.
 use Prim.Native.Nat.{ℕ, suc, _+_, _-_, _*_, _%_, _≤_, _<_}
 use mathlib.Core.Bool.{Bool, true, false}
 use mathlib.Core.List.{List, [], _∷_, _++_, map}
