@@ -1,8 +1,9 @@
 /* A doorbell sends firmware to a chime, twice, over a wire; the chime writes it to a flash on its SPI.
 
    Image 1 arrives whole, though the chime's crystal is 1.5 percent off. During image 2 the chime erases a flash page
-   and does not read UDR0: a frame is lost, the frame after it carries DOR, the chime refuses the image. Then both sit
-   idle for a night, which is not in the waveform. Exits with 0 if exactly that was seen.
+   and does not read UDR0: two frames are held, a third waits and is lost as the fourth one's start bit is accepted, the
+   fourth carries DOR, the chime refuses the image. Then both sit idle for a night, which is not in the waveform. Exits
+   with 0 if exactly that was seen.
 
    Usage: rig [--quiet | --sent] [--trace chime.trace] [waveform.vcd]
    --quiet prints the summary only; --sent prints the bytes that have to be on the wires and the record that the chime
@@ -55,8 +56,8 @@ static size_t frames_lost(const struct transfer *transfer)
     return transfer->report.count < IMAGE_LEN ? IMAGE_LEN - transfer->report.count : 0;
 }
 
-/* Frames were lost; those before came clean; the first after them, and none before it, carried DOR (document 01,
-   M10). */
+/* Frames were lost; those before came clean; the first after them, and none before it, carried DOR (document 02,
+   M-103). */
 static bool was_overrun(const struct transfer *transfer)
 {
     const struct report *report = &transfer->report;

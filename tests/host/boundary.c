@@ -29,8 +29,7 @@ enum {
 };
 
 /* Bytes of the record that are unused, or wait for a request (docs/RECORD.md). */
-static const size_t UNUSED[] = {7,  26, 34, 35, 36, 37, 38, 39, 40, 41,
-                                42, 43, 44, 45, 46, 47, 60, 61, 62};
+static const size_t UNUSED[] = {7, 37, 38, 39, 40, 41, 42, 43, 44, 45, 46, 47, 60, 61, 62};
 
 static const uint16_t REGISTERS[] = {WARPMAGPIE_UCSR0A, WARPMAGPIE_UCSR0B, WARPMAGPIE_UCSR0C, WARPMAGPIE_UBRR0L, WARPMAGPIE_UBRR0H,
                                      WARPMAGPIE_UDR0, WARPMAGPIE_SPCR, WARPMAGPIE_SPSR, WARPMAGPIE_SPDR, WARPMAGPIE_DDRB};

@@ -1,7 +1,7 @@
 //! Compares the archive `libwarpmagpie.a` with the model in model/: random histories, random devices, damaged records,
-//! lines at the limits of the rate error, devices joined by wires, records that break one rule, long holds, and lines
-//! with noise. Then holds and counts of split votes that are wrong on purpose take the place of the archive's, and each
-//! has to be seen.
+//! lines at the limits of the rate error, devices joined by wires, records that break one rule, long holds, lines with
+//! noise, and lines whose frames are read late. Then holds, counts of split votes and stand-ins for all calls that are
+//! wrong on purpose, the last with frames that wait, take the archive's place, and each has to be seen.
 //!
 //! compare [--seed N] [--scale K]
 
@@ -14,6 +14,8 @@ mod archive;
 mod arguments;
 #[path = "compare/broken.rs"]
 mod broken;
+#[path = "compare/broken_waits.rs"]
+mod broken_waits;
 #[path = "compare/call.rs"]
 mod call;
 #[path = "compare/choice.rs"]
@@ -46,6 +48,10 @@ mod hold_splits;
 mod hold_turns;
 #[path = "compare/holds.rs"]
 mod holds;
+#[path = "compare/late_reads.rs"]
+mod late_reads;
+#[path = "compare/late_tally.rs"]
+mod late_tally;
 #[path = "compare/levels.rs"]
 mod levels;
 #[path = "compare/lines.rs"]
@@ -62,12 +68,24 @@ mod parts;
 mod random;
 #[path = "compare/rates.rs"]
 mod rates;
+#[path = "compare/reckoning.rs"]
+mod reckoning;
 #[path = "compare/sampling.rs"]
 mod sampling;
+#[path = "compare/stand_in.rs"]
+mod stand_in;
 #[path = "compare/tally.rs"]
 mod tally;
 #[path = "compare/votes.rs"]
 mod votes;
+#[path = "compare/waiting_calls.rs"]
+mod waiting_calls;
+#[path = "compare/waiting_clocks.rs"]
+mod waiting_clocks;
+#[path = "compare/waiting_records.rs"]
+mod waiting_records;
+#[path = "compare/waits.rs"]
+mod waits;
 #[path = "compare/wires.rs"]
 mod wires;
 #[path = "compare/wrong_asks.rs"]
@@ -78,6 +96,8 @@ mod wrong_clocks;
 mod wrong_counts;
 #[path = "compare/wrong_holds.rs"]
 mod wrong_holds;
+#[path = "compare/wrong_waits.rs"]
+mod wrong_waits;
 #[path = "compare/wrong_ways.rs"]
 mod wrong_ways;
 
@@ -91,7 +111,7 @@ type Part = parts::Part<Run>;
 
 /// A round is a history, a device, a record, or some of them.
 #[rustfmt::skip] // a line each
-const PARTS: [Part; 8] = [
+const PARTS: [Part; 9] = [
     Part { name: "random histories", run: histories::run, rounds: 36_000 },
     Part { name: "random valid devices", run: devices::run, rounds: 1_400_000 },
     Part { name: "damaged records", run: damage::run, rounds: 4_500_000 },
@@ -100,6 +120,7 @@ const PARTS: [Part; 8] = [
     Part { name: "records that break one rule", run: broken::run, rounds: 10_000 },
     Part { name: "long holds", run: holds::run, rounds: 1 },
     Part { name: "lines with noise", run: noise::run, rounds: 50 },
+    Part { name: "lines read late", run: late_reads::run, rounds: 40 },
 ];
 
 fn main() {
@@ -112,6 +133,7 @@ fn compare_all(seed: u64, scale: u64) -> Result<(), String> {
     tally.complete()?;
     tally.wrong_holds = wrong_holds::all_are_seen(seed)?;
     tally.wrong_counts = wrong_counts::all_are_seen(seed)?;
+    tally.wrong_waits = wrong_waits::all_are_seen(seed)?;
     tally.noise.two_turned_over = wrong_counts::two_turned_over_are_seen(seed)?;
     println!("{:34}{seed:>12}", "seed");
     println!("{:34}{scale:>12}", "scale");

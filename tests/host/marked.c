@@ -1,5 +1,5 @@
-/* M8 and M10 of document 01 and the split votes of document 02's M-101 through the archive, and each refusal once at
-   the C boundary. Exits with 1 at the first difference. */
+/* M8 and M10 of document 01, M10 as document 02's M-103 has it, and the split votes of M-101 through the archive, and
+   each refusal once at the C boundary. Exits with 1 at the first difference. */
 #include <stdio.h>
 #include <stdlib.h>
 #include <string.h>
@@ -83,8 +83,7 @@ static void take(unsigned data, unsigned dor)
     expect("UDR0", get(WARPMAGPIE_UDR0), data);
 }
 
-/* M10: three frames unread, two reads, a fourth frame: reads give 1 and 2 without DOR, 4 with DOR. */
-static void m10(void)
+static void three_frames(void)
 {
     done("reset", warpmagpie_reset(record, sizeof record));
     put(WARPMAGPIE_UCSR0B, WARPMAGPIE_RXEN);
@@ -92,12 +91,62 @@ static void m10(void)
     line(1);
     line(2);
     line(3);
+}
+
+static void none_left(void)
+{
+    expect("RXC at the end", get(WARPMAGPIE_UCSR0A) & WARPMAGPIE_RXC, 0);
+}
+
+/* M10: three frames unread, two reads, a fourth frame: all four come out without DOR. */
+static void m10(void)
+{
+    three_frames();
     take(1, 0);
     take(2, 0);
     line(4);
+    take(3, 0);
+    take(4, 0);
+    none_left();
+    puts("M10: two reads before the fourth frame's start: reads give 1, 2, 3, 4 without DOR");
+}
+
+/* Source 003's case: four frames unread: the third goes, and the fourth carries DOR. */
+static void m10_unread(void)
+{
+    three_frames();
+    line(4);
+    take(1, 0);
+    take(2, 0);
     take(4, WARPMAGPIE_DOR);
-    expect("RXC at the end", get(WARPMAGPIE_UCSR0A) & WARPMAGPIE_RXC, 0);
-    puts("M10: reads give 1 and 2 without DOR, 4 with DOR");
+    none_left();
+    puts("M10, four frames unread: reads give 1 and 2 without DOR, 4 with DOR");
+}
+
+/* M-103: reads in the fourth frame's start bit, after this many of its samples; the tenth is its last vote. */
+static void read_in_start(int samples, unsigned third, unsigned dor)
+{
+    three_frames();
+    clocks(0, samples);
+    take(1, 0);
+    take(2, 0);
+    clocks(0, 16 - samples);
+    for (int bit = 0; bit < 8; bit++)
+        clocks(4 >> bit & 1, 16);
+    clocks(WARPMAGPIE_LEVEL_RXD, 32);
+    if (third != 0)
+        take(third, 0);
+    take(4, dor);
+    none_left();
+}
+
+static void m103(void)
+{
+    for (int samples = 0; samples < 10; samples++)
+        read_in_start(samples, 3, 0);
+    for (int samples = 10; samples <= 16; samples++)
+        read_in_start(samples, 0, WARPMAGPIE_DOR);
+    puts("M-103: a read before the start's tenth sample saves the frame that waits, a later one does not");
 }
 
 /* A bit on RxD, of 16 clocks, each one a sample; noise turns over this one of them, counted from 1, or none at 0. */
@@ -221,6 +270,8 @@ int main(void)
 {
     m8();
     m10();
+    m10_unread();
+    m103();
     m101();
     all_refusals();
     return 0;

@@ -1,8 +1,9 @@
-//! Part 6: records that break one rule of docs/RECORD.md between fields that are each within their range. From a valid
-//! device of the rule's shape just that rule is broken in the bytes: every call that looks at the record must answer 5
-//! and leave it, and the record as it was before must be taken.
+//! Part 6: records that break one rule of docs/RECORD.md between fields that are each within their range; of a frame
+//! that waits the ranges too. From a valid device of the rule's shape just that rule is broken in the bytes: every call
+//! that looks at the record must answer 5 and leave it, and the record as it was before must be taken.
 
-use crate::call::compare;
+use crate::broken_waits;
+use crate::call::{compare_by, Calls, ARCHIVE};
 use crate::choice::call_of_kind;
 use crate::devices::random_device;
 use crate::levels::Levels;
@@ -24,10 +25,10 @@ const OLDEST: (usize, u8) = (layout::OLDEST_SPLIT_VOTES, held::SPLIT_VOTES_LAST)
 const SECOND: (usize, u8) = (layout::SECOND_SPLIT_VOTES, held::SPLIT_VOTES_LAST);
 
 /// A rule: what breaks it, the devices in which that can be done, and how.
-struct Rule {
-    broken_by: &'static str,
-    shape: fn(&Device) -> bool,
-    damage: fn(&Device, &mut Bytes, &mut Random),
+pub struct Rule {
+    pub broken_by: &'static str,
+    pub shape: fn(&Device) -> bool,
+    pub damage: fn(&Device, &mut Bytes, &mut Random),
 }
 
 const RULES: [Rule; 23] = [
@@ -161,17 +162,34 @@ const RULES: [Rule; 23] = [
 
 /// Breaks each rule in so many devices.
 pub fn run(devices: u64, random: &mut Random, tally: &mut Tally) -> Result<(), String> {
-    tally.rules_broken = RULES.len() as u64;
+    tally.rules_broken = (RULES.len() + broken_waits::RULES.len()) as u64;
+    break_rules(ARCHIVE, &RULES, devices, random, tally)?;
+    break_rules(ARCHIVE, &broken_waits::RULES, devices, random, tally)
+}
+
+/// Breaks each of these rules with these calls, the archive's or some that are wrong on purpose.
+pub fn break_rules(
+    calls: Calls,
+    rules: &[Rule],
+    devices: u64,
+    random: &mut Random,
+    tally: &mut Tally,
+) -> Result<(), String> {
     for number in 0..devices {
-        for rule in &RULES {
-            break_rule(rule, random, tally)
+        for rule in rules {
+            break_rule(&calls, rule, random, tally)
                 .map_err(|text| format!("{}, device {number}: {text}", rule.broken_by))?;
         }
     }
     Ok(())
 }
 
-fn break_rule(rule: &Rule, random: &mut Random, tally: &mut Tally) -> Result<(), String> {
+fn break_rule(
+    calls: &Calls,
+    rule: &Rule,
+    random: &mut Random,
+    tally: &mut Tally,
+) -> Result<(), String> {
     let whole = Pair::of(device_of(rule.shape, random))?;
     let mut broken = whole.record;
     (rule.damage)(&whole.device, &mut broken, random);
@@ -183,9 +201,9 @@ fn break_rule(rule: &Rule, random: &mut Random, tally: &mut Tally) -> Result<(),
     for kind in 1..KINDS.len() {
         let call = call_of_kind(kind, &whole.device, &mut levels, LONGEST_RUN, random);
         let mut bytes = broken;
-        compare(&mut bytes, &mut None, call, tally)?;
+        compare_by(calls, &mut bytes, &mut None, call, tally)?;
         let mut bytes = whole.record;
-        compare(&mut bytes, &mut Some(whole.device), call, tally)
+        compare_by(calls, &mut bytes, &mut Some(whole.device), call, tally)
             .map_err(|text| format!("as it was before, {text}"))?;
     }
     tally.broken_records += 1;
@@ -222,7 +240,7 @@ fn sends(device: &Device) -> bool {
 }
 
 /// A frame is being received, and this holds of it.
-fn receives(device: &Device, holds: impl Fn(&Receiving) -> bool) -> bool {
+pub fn receives(device: &Device, holds: impl Fn(&Receiving) -> bool) -> bool {
     matches!(&device.usart.receiver.line, Line::Frame(frame) if holds(frame))
 }
 
@@ -271,7 +289,7 @@ fn put_split_votes(bytes: &mut Bytes, (place, most): (usize, u8), least: u8, ran
     bytes[place] = random.pick(&[least, any]);
 }
 
-fn holds_one(device: &Device) -> bool {
+pub fn holds_one(device: &Device) -> bool {
     let receiver = &device.usart.receiver;
     receiver.oldest.is_some() && receiver.second.is_none()
 }

@@ -6,6 +6,7 @@ use crate::archive;
 use crate::difference::{self, hex, Records};
 use crate::model::record::{self, encode};
 use crate::model::{level, number, Device};
+use crate::stand_in::StandIn;
 use crate::tally::{Tally, KINDS};
 
 #[derive(Clone, Copy)]
@@ -39,16 +40,19 @@ pub type Hold = fn(&mut [u8], u8, u32, &mut u8) -> u8;
 /// The call for the split votes on a record's bytes: the archive's, or one that is wrong on purpose.
 pub type SplitVotes = fn(&[u8], &mut u8) -> u8;
 
-/// Calls of the archive in whose place wrong ones can be put.
+/// Calls of the archive in whose place wrong ones can be put: a hold, a call for the split votes, or all that look at
+/// the record.
 #[derive(Clone, Copy)]
 pub struct Calls {
     pub hold: Hold,
     pub split_votes: SplitVotes,
+    pub stand_in: Option<&'static StandIn>,
 }
 
 pub const ARCHIVE: Calls = Calls {
     hold: archive::hold,
     split_votes: archive::split_votes,
+    stand_in: None,
 };
 
 /// What a call answers: the number, the value (0 where the call has none; a hold's is its output byte) and the output
@@ -105,7 +109,7 @@ impl Call<'_> {
         )
     }
 
-    fn outputs(&self) -> Vec<u8> {
+    pub fn outputs(&self) -> Vec<u8> {
         match self {
             Call::Run { outputs_len, .. } => vec![BEFORE; *outputs_len],
             _ => Vec::new(),
@@ -141,6 +145,9 @@ impl fmt::Display for Call<'_> {
 }
 
 fn archive_answer(calls: &Calls, record: &mut [u8], call: &Call) -> Answer {
+    if let Some(stand_in) = calls.stand_in {
+        return stand_in.answer(record, call);
+    }
     let mut outputs = call.outputs();
     let mut value = if call.has_value() { BEFORE } else { 0 };
     let number = match *call {
@@ -174,8 +181,10 @@ fn model_answer(
             (number::DONE, 0)
         }
         (_, None) | (Call::Reset, _) => (number::RECORD, 0),
-        (Call::Write { address, value }, Some(device)) => (device.write(address, value), 0),
-        (Call::Read { address }, Some(device)) => device.read(address),
+        (Call::Write { address, value }, Some(device)) => {
+            (model_write(device, address, value, tally), 0)
+        }
+        (Call::Read { address }, Some(device)) => model_read(device, address, tally),
         (Call::TakeVector { vector }, Some(device)) => (device.take_vector(vector), 0),
         (Call::Run { levels, .. }, Some(device)) => {
             (model_run(device, levels, &mut outputs, tally), 0)
@@ -189,6 +198,22 @@ fn model_answer(
         value,
         outputs,
     }
+}
+
+/// A write of the model, counted.
+fn model_write(device: &mut Device, address: u16, value: u8, tally: &mut Tally) -> u8 {
+    let before = device.usart;
+    let number = device.write(address, value);
+    tally.waits.count_call(&before, &device.usart, number);
+    number
+}
+
+/// A read of the model, counted.
+fn model_read(device: &mut Device, address: u16, tally: &mut Tally) -> (u8, u8) {
+    let before = device.usart;
+    let (number, value) = device.read(address);
+    tally.waits.count_call(&before, &device.usart, number);
+    (number, value)
 }
 
 fn model_run(device: &mut Device, levels: &[u8], outputs: &mut [u8], tally: &mut Tally) -> u8 {

@@ -38,7 +38,7 @@ pub fn call_of_kind<'a>(
         0 => Call::Reset,
         1 => random_write(device, random),
         2 => Call::Read {
-            address: random_address(random),
+            address: random_read_address(device, random),
         },
         3 => Call::TakeVector {
             vector: random_vector(random),
@@ -112,6 +112,14 @@ fn random_vector(random: &mut Random) -> u8 {
     } else {
         random.byte()
     }
+}
+
+/// Any address, and UDR0 more often while a frame waits, which a read of it moves in.
+fn random_read_address(device: &Device, random: &mut Random) -> u16 {
+    if device.usart.receiver.waiting.is_some() && random.percent(15) {
+        return address::UDR0;
+    }
+    random_address(random)
 }
 
 fn random_address(random: &mut Random) -> u16 {

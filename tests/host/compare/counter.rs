@@ -20,8 +20,7 @@ pub struct Vote<'a> {
 /// What ended before a start was found, and its count.
 #[derive(Clone, Copy)]
 pub enum Ended {
-    Stored(u8),
-    Lost(u8),
+    Completed(u8),
     Dropped(u8),
 }
 
@@ -32,8 +31,12 @@ pub struct Way {
     pub begin: fn(Ended) -> u8,
     /// The count after a vote.
     pub vote: fn(&Vote) -> u8,
-    /// Puts the count of a frame that completes to those held, oldest first; the frame has this DOR.
+    /// Puts the count of a frame that completes to those held, oldest first, the third of which waits; the frame has
+    /// this DOR.
     pub enter: fn(&mut Vec<u8>, u8, bool),
+    /// Takes away the count of the frame that waits, if one does, as a start is accepted with this count; answers the
+    /// count with which the frame under way goes on.
+    pub accept: fn(&mut Vec<u8>, u8) -> u8,
     /// Takes away the count of a frame that is read.
     pub take: fn(&mut Vec<u8>),
     /// The answer, from the counts held and that of the frame under way.
@@ -55,7 +58,7 @@ impl Counter {
         Counter {
             device,
             way,
-            ended: Ended::Stored(0),
+            ended: Ended::Completed(0),
             count: 0,
             samples: Vec::new(),
             held: Vec::new(),
@@ -97,15 +100,16 @@ impl Counter {
             kind,
             samples: &self.samples,
         });
-        if kind == START && !self.device.usart.receiver.busy() {
-            self.ended = Ended::Dropped(self.count);
-        }
-        if kind == STOP {
-            (self.way.enter)(&mut self.held, self.count, before.receiver.lost);
-            self.ended = match before.receiver.second {
-                None => Ended::Stored(self.count),
-                Some(_) => Ended::Lost(self.count),
-            };
+        match kind {
+            START if self.device.usart.receiver.busy() => {
+                self.count = (self.way.accept)(&mut self.held, self.count);
+            }
+            START => self.ended = Ended::Dropped(self.count),
+            STOP => {
+                (self.way.enter)(&mut self.held, self.count, before.receiver.lost);
+                self.ended = Ended::Completed(self.count);
+            }
+            _ => (),
         }
     }
 }

@@ -111,28 +111,43 @@ fn limit(place: usize, device: &Device) -> u16 {
         layout::UCSR0C => 0x3E + 1,
         layout::SENT_BIT => format.last_bit() as u16 + 1,
         layout::SENT_TICKS => format.ticks() as u16,
-        layout::SAMPLED_BIT => format.word_bits() as u16 + 2,
-        layout::SAMPLES => match device.usart.receiver.line {
-            Line::Frame(frame) if frame.bit > format.word_bits() => format.last_vote() as u16,
-            _ => format.ticks() as u16,
-        },
+        layout::SAMPLED_BIT => bit_limit(&device.usart),
+        layout::SAMPLES => samples_limit(&device.usart),
         // At most D + 1 bits are decided as long as the frame is being received.
         layout::SPLIT_VOTES => match device.usart.receiver.line {
             Line::Frame(frame) => frame.bits_decided(format) as u16 + 1,
             _ => format.word_bits() as u16 + 2,
         },
-        layout::OLDEST_SPLIT_VOTES | layout::SECOND_SPLIT_VOTES => {
+        layout::OLDEST_SPLIT_VOTES | layout::SECOND_SPLIT_VOTES | layout::WAITING_SPLIT_VOTES => {
             held::SPLIT_VOTES_LAST as u16 + 1
         }
         layout::FRAMES_HELD | layout::SPIF | layout::WCOL => 3,
-        layout::OLDEST_FLAGS | layout::SECOND_FLAGS => held::LIMIT as u16,
-        layout::OLDEST_DATA | layout::SECOND_DATA => 256,
+        layout::OLDEST_FLAGS | layout::SECOND_FLAGS | layout::WAITING_FLAGS => held::LIMIT as u16,
+        layout::OLDEST_DATA | layout::SECOND_DATA | layout::WAITING_DATA => 256,
         layout::SPCR | layout::DDRB | layout::SHIFT | layout::SPI_BUFFER => 256,
         layout::EDGES => EDGES as u16,
         layout::CLOCKS_LEFT => device.spi.half() as u16 + 1,
         layout::NUMBER_PLACE => layout::NUMBER as u16 + 1,
         _ if layout::is_unused(place) => 1,
         _ => 2,
+    }
+}
+
+/// Of the bit being sampled: while a frame waits, the next one's start bit is not decided yet.
+fn bit_limit(usart: &Usart) -> u16 {
+    match usart.receiver.waiting {
+        Some(_) => 1,
+        None => usart.format.word_bits() as u16 + 2,
+    }
+}
+
+/// Of the samples taken of that bit.
+fn samples_limit(usart: &Usart) -> u16 {
+    let format = &usart.format;
+    match usart.receiver.line {
+        Line::Frame(frame) if frame.bit > format.word_bits() => format.last_vote() as u16,
+        _ if usart.receiver.waiting.is_some() => format.last_vote() as u16,
+        _ => format.ticks() as u16,
     }
 }
 

@@ -99,27 +99,36 @@ fn random_receiver(format: &Format, random: &mut Random) -> Receiver {
         return Receiver::reset();
     }
     let oldest = random.percent(70).then_some(random_received(random));
-    let second = random.percent(50).then_some(random_received(random));
+    let second = random.percent(60).then_some(random_received(random));
+    let second = oldest.and(second);
+    let waiting = random.percent(40).then_some(random_received(random));
+    let waiting = second.and(waiting);
     let line = match random.flip() {
         false => Line::Idle {
             last: random.flip(),
         },
-        true => Line::Frame(random_receiving(format, random)),
+        true => Line::Frame(random_receiving(format, waiting.is_some(), random)),
     };
     Receiver {
         rxen: true,
         line,
         oldest,
-        second: oldest.and(second),
+        second,
+        waiting,
         lost: random.flip(),
     }
 }
 
-fn random_receiving(format: &Format, random: &mut Random) -> Receiving {
+/// A frame under way; while another one waits, its start bit is not decided yet.
+fn random_receiving(format: &Format, waits: bool, random: &mut Random) -> Receiving {
     let stop_bit = format.word_bits() + 1;
-    let bit = random.between(0, stop_bit as u64) as u8;
+    let bit = if waits {
+        0
+    } else {
+        random.between(0, stop_bit as u64) as u8
+    };
     let first = if bit == 0 { 1 } else { 0 };
-    let limit = if bit == stop_bit {
+    let limit = if bit == stop_bit || waits {
         format.last_vote()
     } else {
         format.ticks()

@@ -4,7 +4,7 @@ use crate::call::{Answer, Call};
 use crate::model::layout;
 
 /// First byte and name of each field of the record that is in use.
-const FIELDS: [(usize, &str); 40] = [
+const FIELDS: [(usize, &str); 44] = [
     (layout::UBRR, "UBRR"),
     (layout::COUNTER, "baud counter"),
     (layout::UCSR0A, "UCSR0A: TXC and U2X"),
@@ -25,6 +25,7 @@ const FIELDS: [(usize, &str); 40] = [
     (layout::RECEIVED_WORD, "bits received"),
     (layout::SPLIT_VOTES, "split votes so far"),
     (layout::FRAMES_HELD, "frames held"),
+    (layout::FRAME_WAITS, "frame waits"),
     (layout::FRAME_LOST, "frame lost"),
     (layout::OLDEST_DATA, "oldest frame, data"),
     (layout::OLDEST_FLAGS, "oldest frame, ninth bit and flags"),
@@ -32,6 +33,9 @@ const FIELDS: [(usize, &str); 40] = [
     (layout::SECOND_DATA, "second frame, data"),
     (layout::SECOND_FLAGS, "second frame, ninth bit and flags"),
     (layout::SECOND_SPLIT_VOTES, "second frame, split votes"),
+    (layout::WAITING_DATA, "waiting frame, data"),
+    (layout::WAITING_FLAGS, "waiting frame, ninth bit and flags"),
+    (layout::WAITING_SPLIT_VOTES, "waiting frame, split votes"),
     (layout::SPCR, "SPCR"),
     (layout::SPI2X, "SPI2X"),
     (layout::DDRB, "DDRB"),

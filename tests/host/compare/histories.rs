@@ -1,12 +1,13 @@
 //! Part 1: random histories from reset.
 
-use crate::call::Call;
+use crate::call::{Call, Calls, ARCHIVE};
 use crate::choice::{random_call, sensible_value};
 use crate::levels::Levels;
 use crate::model::{address, level, usart};
 use crate::pair::Pair;
 use crate::random::Random;
 use crate::tally::Tally;
+use crate::waits::Waits;
 
 const CALLS: u64 = 120;
 const LONGEST_RUN: u64 = 500;
@@ -15,14 +16,28 @@ const LONG_RUN_IN: u64 = 400;
 const LONG_RUN: usize = 70_000;
 
 pub fn run(histories: u64, random: &mut Random, tally: &mut Tally) -> Result<(), String> {
+    tally.waits = Waits::default();
+    play(ARCHIVE, histories, random, tally)?;
+    tally.waits_in_histories = tally.waits;
+    Ok(())
+}
+
+/// Histories with these calls, the archive's or some that are wrong on purpose.
+pub fn play(
+    calls: Calls,
+    histories: u64,
+    random: &mut Random,
+    tally: &mut Tally,
+) -> Result<(), String> {
     for number in 0..histories {
-        history(random, tally).map_err(|text| format!("history {number}, {text}"))?;
+        history(calls, random, tally).map_err(|text| format!("history {number}, {text}"))?;
     }
     Ok(())
 }
 
-fn history(random: &mut Random, tally: &mut Tally) -> Result<(), String> {
+fn history(calls: Calls, random: &mut Random, tally: &mut Tally) -> Result<(), String> {
     let mut pair = begun(random, tally)?;
+    pair.calls = calls;
     let mut levels = Levels::new();
     for number in 0..CALLS {
         let call = random_call(&pair.device, &mut levels, LONGEST_RUN, random);

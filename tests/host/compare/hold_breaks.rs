@@ -27,9 +27,10 @@ fn round(hold: Hold, _: u64, random: &mut Random, tally: &mut Tally) -> Result<(
     let others = random_level(random) & !level::RXD;
     let usart = pair.device.usart;
     pair.hold(others, u32::from(usart.counter) + frame(&usart), tally)?;
-    // The frame that the break made, and those before it, make room for the next one.
-    pair.read(address::UDR0, tally)?;
-    pair.read(address::UDR0, tally)?;
+    // The frame that the break made, and those before it, make room for the next one: two held, and one that waits.
+    for _ in 0..3 {
+        pair.read(address::UDR0, tally)?;
+    }
     for turns in 0..=TURNS {
         let high = turns * turn(&usart);
         for high in high.saturating_sub(OFF)..=high + OFF {

@@ -27,12 +27,13 @@ const SOME: u64 = 40;
 type Shape = fn(&Device, u64) -> bool;
 
 #[rustfmt::skip] // a line each
-const SHAPES: [(&str, Shape); 14] = [
+const SHAPES: [(&str, Shape); 15] = [
     ("any device", |_, _| true),
     ("a frame being sent, another in the buffer", |device, _| sends(device) && has_next(device)),
     ("the last frame being sent", |device, _| sends(device) && !has_next(device)),
     ("a frame in the buffer alone", |device, _| !sends(device) && has_next(device)),
     ("a frame being received", |device, _| device.usart.receiver.busy()),
+    ("a frame that waits, in every other round in a start bit", |device, number| waits_for_place(device, number)),
     ("a receiver that remembers high", |device, _| remembers(device, true)),
     ("a receiver that remembers low", |device, _| remembers(device, false)),
     ("a master's transfer, at each divisor", |device, number| is_master(device) && waits(device, number)),
@@ -145,6 +146,12 @@ fn has_next(device: &Device) -> bool {
 fn remembers(device: &Device, last: bool) -> bool {
     let receiver = &device.usart.receiver;
     receiver.rxen && receiver.line == Line::Idle { last }
+}
+
+/// A frame waits, and the next one's start bit is being received or is not.
+fn waits_for_place(device: &Device, number: u64) -> bool {
+    let receiver = &device.usart.receiver;
+    receiver.waiting.is_some() && receiver.busy() == (number % 2 == 0)
 }
 
 fn is_master(device: &Device) -> bool {

@@ -16,6 +16,8 @@ use crate::tally::Tally;
 
 /// UBRR and the frames of a line with it.
 const LENGTHS: [(u16, usize); 4] = [(0, 12), (1, 10), (3, 8), (24, 3)];
+/// 'The buffer holds two frames'.
+const PLACES: usize = 2;
 /// Lines outside the limits, for each round over the formats.
 const OUTSIDE: usize = 60;
 /// Frames of such a line.
@@ -92,7 +94,8 @@ pub fn receiving_device(format: &Format, ubrr: u16, random: &mut Random) -> Devi
     device
 }
 
-/// A line within the limits: exactly its frames come out, in order, without flags or split votes, each in time.
+/// A line within the limits: exactly its frames come out, in order, without flags or split votes. Each is held in time
+/// where it finds a place free, and else waits by then; a read then moves it in before the next start is accepted.
 fn line_inside(
     format: &Format,
     ubrr: u16,
@@ -109,12 +112,10 @@ fn line_inside(
         run_in_pieces(&mut pair, &line.levels[clock..end], random, tally)?;
         clock = end;
         unread.push_back(Frame::plain(data));
-        // This frame has entered in time.
-        let held = pair.record[layout::FRAMES_HELD];
-        if held as usize != unread.len() {
-            return Err(format!("{held} frames held instead of {}", unread.len()));
-        }
-        if unread.len() == 2 || random.percent(70) {
+        expect_held(&pair, unread.len())?;
+        let waits = unread.len() > PLACES;
+        tally.line_frames_waited += waits as u64;
+        if waits || random.percent(60) {
             read_frame(&mut pair, unread.pop_front(), tally)?;
         }
     }
@@ -124,6 +125,16 @@ fn line_inside(
         read_frame(&mut pair, frame, tally)?;
     }
     tally.line_frames += frames as u64;
+    Ok(())
+}
+
+/// All frames unread are there: two are held, and one more waits.
+fn expect_held(pair: &Pair, unread: usize) -> Result<(), String> {
+    let [held, waits] = [layout::FRAMES_HELD, layout::FRAME_WAITS].map(|place| pair.record[place]);
+    let expected = [unread.min(PLACES), unread.saturating_sub(PLACES)];
+    if [held, waits].map(usize::from) != expected {
+        return Err(format!("{held} frames held, {waits} wait, of {unread}"));
+    }
     Ok(())
 }
 

@@ -1,7 +1,8 @@
 //! Part 8: lines with noise (document 02, M-101). On lines within the limits of the rate error one voting sample is
 //! turned over in each of some bits of a frame. Then exactly the frame's data come out, without FE and UPE, without DOR
 //! where no frame was lost, and its split votes are as many as bits were hit: a number chosen here, whatever the model
-//! counts. Noise at samples that do not vote changes nothing.
+//! counts. Noise at samples that do not vote changes nothing. A third frame waits until a read, or is lost with the
+//! last vote of the next one's start bit (M-103).
 
 use std::collections::VecDeque;
 
@@ -73,7 +74,10 @@ fn random_line(frames: usize, mut line: NoisyLine, random: &mut Random) -> Noisy
     line
 }
 
-/// What has to be held: 'The buffer holds two frames' (document 01).
+/// 'The buffer holds two frames' (document 01).
+const PLACES: usize = 2;
+
+/// What has to be held, and behind it what waits.
 #[derive(Default)]
 struct Held {
     frames: VecDeque<Frame>,
@@ -81,26 +85,35 @@ struct Held {
 }
 
 impl Held {
-    /// 'A frame that completes with both places full is lost, and the next frame stored carries DOR.'
-    fn enter(&mut self, sent: &Sent, tally: &mut Tally) {
-        if self.frames.len() == 2 {
+    /// M-103: 'with both places full a completed frame waits', and after a loss 'the next frame that completes carries
+    /// DOR'.
+    fn enter(&mut self, sent: &Sent) {
+        self.frames.push_back(Frame {
+            dor: std::mem::take(&mut self.lost),
+            ..sent.frame
+        });
+    }
+
+    fn one_waits(&self) -> bool {
+        self.frames.len() > PLACES
+    }
+
+    /// M-103: 'an accepted start bit (its last vote) while one waits loses that one'.
+    fn accept(&mut self, tally: &mut Tally) {
+        if self.one_waits() {
+            self.frames.truncate(PLACES);
             self.lost = true;
             tally.noise.lost += 1;
-            return;
         }
-        self.frames.push_back(Frame {
-            data: sent.data,
-            dor: std::mem::take(&mut self.lost),
-            split_votes: sent.hits,
-        });
     }
 
     fn oldest(&self) -> Option<Frame> {
         self.frames.front().copied()
     }
 
-    /// Reads the oldest frame, or finds none.
+    /// Reads the oldest frame, or finds none. M-103: 'a UDR0 read moves it in at once', the one that waits.
     fn read(&mut self, program: &mut impl Program, tally: &mut Tally) -> Result<(), String> {
+        tally.noise.moved_in += self.one_waits() as u64;
         let frame = self.frames.pop_front();
         read_frame(program, frame, tally)?;
         match frame {
@@ -112,8 +125,59 @@ impl Held {
     }
 }
 
-/// Each frame must be held after the clock with which it completes; before that clock the count answered is that of the
-/// oldest held till then.
+/// A line under way: what has to be held, and the clocks that have passed.
+struct Playing<'a, P> {
+    line: &'a NoisyLine,
+    program: &'a mut P,
+    held: Held,
+    clock: usize,
+}
+
+impl<P: Program> Playing<'_, P> {
+    /// Passes clocks up to this number of them. The frame's start is accepted with the clock of its last vote.
+    fn pass(&mut self, clock: usize, sent: &Sent, tally: &mut Tally) -> Result<(), String> {
+        self.program
+            .pass_levels(&self.line.levels[self.clock..clock], tally)?;
+        if (self.clock..clock).contains(&sent.accepted) {
+            self.held.accept(tally);
+        }
+        self.clock = clock;
+        Ok(())
+    }
+
+    fn read(&mut self, tally: &mut Tally) -> Result<(), String> {
+        self.held.read(self.program, tally)
+    }
+
+    /// Up to the completion of a frame, with a look, and now and then a read, on the way. Where none may be lost, the
+    /// look comes before the start is accepted, and a frame that waits is moved in by a read.
+    fn receive(
+        &mut self,
+        sent: &Sent,
+        is_slowly_read: bool,
+        random: &mut Random,
+        tally: &mut Tally,
+    ) -> Result<(), String> {
+        let must_read = self.held.one_waits() && !is_slowly_read;
+        let last = if must_read {
+            sent.accepted
+        } else {
+            sent.completes
+        };
+        let middle = random.between(self.clock as u64, last as u64) as usize;
+        self.pass(middle, sent, tally)?;
+        expect_split_votes(self.program, self.held.oldest(), tally)?;
+        if must_read || self.held.one_waits() && random.percent(30) {
+            self.read(tally)?;
+        }
+        self.pass(sent.completes + 1, sent, tally)?;
+        self.held.enter(sent);
+        Ok(())
+    }
+}
+
+/// Each frame must be held, or wait, after the clock with which it completes; before that clock the count answered is
+/// that of the oldest held till then.
 pub fn play(
     line: &NoisyLine,
     program: &mut impl Program,
@@ -121,20 +185,24 @@ pub fn play(
     tally: &mut Tally,
 ) -> Result<(), String> {
     let is_slowly_read = random.percent(SLOWLY_READ);
-    let mut held = Held::default();
-    let mut clock = 0;
+    let mut playing = Playing {
+        line,
+        program,
+        held: Held::default(),
+        clock: 0,
+    };
     for sent in &line.frames {
-        let middle = random.between(clock as u64, sent.completes as u64) as usize;
-        program.pass_levels(&line.levels[clock..middle], tally)?;
-        expect_split_votes(program, held.oldest(), tally)?;
-        clock = sent.completes + 1;
-        program.pass_levels(&line.levels[middle..clock], tally)?;
-        held.enter(sent, tally);
-        let has_room = held.frames.len() < 2 || is_slowly_read;
-        if !has_room || random.percent(if is_slowly_read { 40 } else { 70 }) {
-            held.read(program, tally)?;
+        playing.receive(sent, is_slowly_read, random, tally)?;
+        if random.percent(if is_slowly_read { 40 } else { 70 }) {
+            playing.read(tally)?;
         }
     }
+    let Playing {
+        program,
+        mut held,
+        clock,
+        ..
+    } = playing;
     program.pass_levels(&line.levels[clock..], tally)?;
     // Nothing more comes in as much time as a frame takes.
     let idle = line.levels.len() / line.frames.len();

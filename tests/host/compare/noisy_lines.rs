@@ -1,7 +1,8 @@
 //! Lines of document 01, 'The line of demand 3', on which noise turns over samples. What a receiver has to make of a
 //! line is known from the choices made here and from document 01's words, not from the model.
 
-use crate::model::frame::Format;
+use crate::frames::Frame;
+use crate::model::frame::{Format, Parity};
 use crate::model::level;
 use crate::random::Random;
 use crate::rates::Bit;
@@ -10,15 +11,20 @@ use crate::sampling::Sampling;
 /// Samples, and clocks between them, that do not vote are turned over in some frames: few of them or all.
 const STRAYS: [u64; 4] = [0, 0, 8, 100];
 
+/// So many bits in a hundred of a spoiled frame have votes turned over.
+const SPOILED: u64 = 15;
+
 /// A frame on a line.
 pub struct Sent {
-    pub data: u16,
-    /// In how many of its bits one vote is turned over.
-    pub hits: u8,
+    /// As it has to come out, but for DOR, which goes by when the frames before it are read. Its split votes are as
+    /// many as bits of it that have votes of both levels.
+    pub frame: Frame,
     /// The clock of sample 1 of its start bit: the first tick at which the line shows it, since the receiver is idle by
     /// then and remembers high.
-    first: u64,
-    /// 'The frame completes at the last vote of the first stop bit': with this clock it is held.
+    pub first: u64,
+    /// 'an accepted start bit (its last vote)' (M-103): with this clock the start is accepted.
+    pub accepted: usize,
+    /// 'The frame completes at the last vote of the first stop bit': with this clock it is held, or waits.
     pub completes: usize,
 }
 
@@ -64,11 +70,12 @@ impl NoisyLine {
         }
         let sampling = &self.sampling;
         let first = sampling.tick_from(start);
+        let accepted = sampling.clock_of(first, 0, sampling.votes[2]);
         let completes = sampling.clock_of(first, self.voted_bits() - 1, sampling.votes[2]);
         self.frames.push(Sent {
-            data,
-            hits: 0,
+            frame: Frame::plain(data),
             first,
+            accepted: accepted as usize,
             completes: completes as usize,
         });
     }
@@ -97,7 +104,48 @@ impl NoisyLine {
             self.turn_over(bits[place], random.below(votes) as usize);
         }
         if let Some(frame) = self.frames.last_mut() {
-            frame.hits = hits as u8;
+            frame.frame.split_votes = hits as u8;
+        }
+    }
+
+    /// Turns over votes in some bits of the last frame, which has no noise yet: one, and the vote is split; two, and
+    /// the bit is turned over too; or all three, and it is turned over. The start bit stays a start bit.
+    pub fn spoil(&mut self, random: &mut Random) {
+        for bit in 0..self.voted_bits() {
+            if !random.percent(SPOILED) {
+                continue;
+            }
+            let is_stop = bit + 1 == self.voted_bits();
+            let votes: &[&[usize]] = match bit {
+                0 => &[&[0], &[1], &[2]],
+                // The last vote of the stop bit, where it is low, is remembered: as in `hit`.
+                _ if is_stop && !self.tick_is_left() => &[&[0], &[1], &[0, 1]],
+                _ => &[&[0], &[2], &[0, 1], &[1, 2], &[0, 1, 2], &[0, 1, 2]],
+            };
+            let votes = random.pick(votes);
+            votes.iter().for_each(|&vote| self.turn_over(bit, vote));
+            self.note_votes(bit, votes.len());
+        }
+    }
+
+    /// What becomes of the last frame where so many votes of a bit are turned over.
+    fn note_votes(&mut self, bit: u64, votes: usize) {
+        let format = &self.format;
+        let Some(Sent { frame, .. }) = self.frames.last_mut() else {
+            return;
+        };
+        frame.split_votes += (votes < 3) as u8;
+        if votes < 2 {
+            return;
+        }
+        if bit > u64::from(format.word_bits()) {
+            frame.fe = true;
+            return;
+        }
+        // Data and parity bit agree, or do not, the other way round.
+        frame.upe ^= format.parity != Parity::Off;
+        if bit <= u64::from(format.data_bits) {
+            frame.data ^= 1 << (bit - 1);
         }
     }
 

@@ -93,12 +93,15 @@ impl Pair {
             .map(|answer| answer.value)
     }
 
-    /// Reads all registers on a copy, since reads have side effects.
+    /// Reads all registers on a copy, since reads have side effects. A frame that moves in there may move in once more
+    /// here: it is not counted.
     pub fn read_all_on_copy(&self, tally: &mut Tally) -> Result<(), String> {
         let mut copy = self.clone();
+        let waits = tally.waits;
         for address in address::ALL {
             copy.read(address, tally)?;
         }
+        tally.waits = waits;
         Ok(())
     }
 }

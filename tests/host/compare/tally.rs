@@ -1,8 +1,10 @@
 //! What was done in all parts together, and the table at the end.
 
 use crate::call::Call;
+use crate::late_tally::LateTally;
 use crate::model::{level, spi, Device};
 use crate::votes::{NoiseTally, Votes};
+use crate::waits::Waits;
 
 pub const KINDS: [&str; 8] = [
     "reset",
@@ -30,6 +32,8 @@ pub struct Tally {
     pub least_refused: u64,
     pub least_accepted: u64,
     pub line_frames: u64,
+    /// Those of them that waited for a place.
+    pub line_frames_waited: u64,
     pub wire_frames: u64,
     pub wire_bytes: u64,
     pub rules_broken: u64,
@@ -44,6 +48,11 @@ pub struct Tally {
     pub votes: Votes,
     pub noise: NoiseTally,
     pub wrong_counts: u64,
+    /// Of frames that wait: in the part under way, and in all random histories.
+    pub waits: Waits,
+    pub waits_in_histories: Waits,
+    pub late: LateTally,
+    pub wrong_waits: u64,
 }
 
 impl Tally {
@@ -56,9 +65,12 @@ impl Tally {
     pub fn count_clock(&mut self, before: &Device, after: &Device, level: u8) {
         self.clocks += 1;
         let (old, new) = (&before.usart.receiver, &after.usart.receiver);
-        let stored = old.oldest.is_none() && new.oldest.is_some()
-            || old.second.is_none() && new.second.is_some();
-        self.frames_received += stored as u64;
+        // A clock puts at most one frame to those held and waiting; a frame that moves in later does so by a read.
+        let completed = old.oldest.is_none() && new.oldest.is_some()
+            || old.second.is_none() && new.second.is_some()
+            || old.waiting.is_none() && new.waiting.is_some();
+        self.frames_received += completed as u64;
+        self.waits.count_clock(old, new);
         // A buffer emptied by a clock has moved to the shifter.
         self.frames_sent +=
             (before.usart.sender.buffer.is_some() && after.usart.sender.buffer.is_none()) as u64;
@@ -70,10 +82,16 @@ impl Tally {
             .count_clock(&before.usart, level & level::RXD != 0);
     }
 
-    /// Every refusal must have been met, both ends of a break, and split votes of every kind and number.
+    /// Every refusal must have been met, both ends of a break, split votes of every kind and number, and frames that
+    /// wait with all that can become of them.
     pub fn complete(&self) -> Result<(), String> {
         self.votes.complete()?;
         self.noise.complete()?;
+        self.waits_in_histories.complete()?;
+        self.late.complete()?;
+        if self.line_frames_waited == 0 {
+            return Err("no frame waited on lines at the limits".to_string());
+        }
         if self.starts_after_breaks == 0 || self.breaks_gone_on == 0 {
             return Err("breaks ended all alike".to_string());
         }
@@ -99,6 +117,7 @@ impl Tally {
             ("least refused by one byte alone", self.least_refused),
             ("least accepted by one byte alone", self.least_accepted),
             ("frames on lines at the limits", self.line_frames),
+            (".. that waited for a place", self.line_frames_waited),
             ("frames from device to device", self.wire_frames),
             ("SPI bytes from device to device", self.wire_bytes),
             ("rules broken one at a time", self.rules_broken),
@@ -110,12 +129,15 @@ impl Tally {
             ("holds split in two", self.holds_split),
             ("wrong holds seen", self.wrong_holds),
             ("wrong counts seen", self.wrong_counts),
+            ("wrong waits seen", self.wrong_waits),
         ];
         for (name, count) in rows {
             print_row(name, count);
         }
         self.votes.print();
         self.noise.print();
+        self.waits_in_histories.print();
+        self.late.print();
         for number in 1..=8 {
             print_row(&format!("refusals with {number}"), self.numbers[number]);
         }

@@ -24,7 +24,7 @@ pub struct Votes {
     split: [u64; 4],
     /// Start bits with a split vote that were dropped.
     dropped: u64,
-    /// Frames that completed with a split vote, and those of them that were lost by an overrun.
+    /// Frames that completed with a split vote, and frames with one that waited and were lost at an accepted start.
     frames: u64,
     lost: u64,
     /// The greatest count of a frame that completed.
@@ -36,7 +36,8 @@ pub struct Votes {
 pub struct NoiseTally {
     /// Frames that came out without DOR, by the number of bits that were hit.
     pub frames: [u64; COUNTS],
-    /// Frames lost by an overrun, and those that came out with DOR after it.
+    /// Frames that waited and came out, those lost at an accepted start, and those that came out with DOR after it.
+    pub moved_in: u64,
     pub lost: u64,
     pub after_loss: u64,
     /// Frames with noise where nothing votes, too.
@@ -78,10 +79,13 @@ impl Votes {
         if kind == START && decision.high {
             self.dropped += decision.split as u64;
         }
+        if kind == START && !decision.high {
+            let waiting = before.receiver.waiting;
+            self.lost += waiting.is_some_and(|frame| frame.split_votes > 0) as u64;
+        }
         if kind == STOP {
             let count = frame.split_votes + decision.split as u8;
             self.frames += (count > 0) as u64;
-            self.lost += (count > 0 && before.receiver.second.is_some()) as u64;
             self.greatest = self.greatest.max(count);
         }
     }
@@ -91,8 +95,8 @@ impl Votes {
         if let Some((kind, _)) = BITS.iter().zip(self.split).find(|(_, count)| *count == 0) {
             return Err(format!("no {kind} bit had a split vote"));
         }
-        if self.dropped == 0 || self.lost == 0 || self.frames == self.lost {
-            return Err("split votes were all held, or none was".to_string());
+        if self.dropped == 0 || self.lost == 0 || self.frames == 0 {
+            return Err("split votes were all of one kind of frames".to_string());
         }
         if self.greatest != SPLIT_VOTES_LAST {
             let most = self.greatest;
@@ -115,7 +119,7 @@ impl Votes {
 impl NoiseTally {
     /// Each number of split votes must have been met often, and all the rest.
     pub fn complete(&self) -> Result<(), String> {
-        let losses = self.lost.min(self.after_loss);
+        let losses = self.moved_in.min(self.lost).min(self.after_loss);
         if losses.min(self.stray_frames).min(self.false_starts) == 0 {
             return Err("lines with noise were all alike".to_string());
         }
@@ -129,6 +133,7 @@ impl NoiseTally {
         for (hits, &count) in self.frames.iter().enumerate() {
             print_row(&format!("frames with noise in {hits} bits"), count);
         }
+        print_row("frames with noise moved in", self.moved_in);
         print_row("frames with noise lost", self.lost);
         print_row("frames with noise and DOR", self.after_loss);
         print_row("frames with noise beside the votes", self.stray_frames);

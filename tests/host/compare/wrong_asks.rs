@@ -11,15 +11,29 @@ use crate::pair::Pair;
 use crate::random::Random;
 use crate::tally::Tally;
 
-const WRONG: [(&str, SplitVotes); 8] = [
+const WRONG: [(&str, SplitVotes); 12] = [
     ("the count left as it was on a refusal", left_on_refusal),
     ("no refusal", no_refusal),
     ("another number", other_number),
     ("12 refused", twelve_refused),
-    ("13 taken as 12", thirteen_taken),
+    ("13 taken as 12", |record, count| {
+        thirteen_taken(layout::OLDEST_SPLIT_VOTES, record, count)
+    }),
+    ("13 of one that waits taken", |record, count| {
+        thirteen_taken(layout::WAITING_SPLIT_VOTES, record, count)
+    }),
+    ("those of one that waits", of_waiting),
     ("a frame held bound by the format", bound_by_format),
     ("more than the bits decided taken", more_than_decided_taken),
     ("a count without its frame taken", without_frame_taken),
+    (
+        "a count without one that waits taken",
+        without_waiting_taken,
+    ),
+    (
+        "one that waits taken with fewer than two held",
+        waiting_without_two_taken,
+    ),
 ];
 
 /// Records of which each must be asked.
@@ -121,10 +135,17 @@ fn changed(change: impl Fn(&mut Bytes), record: &[u8], count: &mut u8) -> u8 {
     }
 }
 
-fn thirteen_taken(record: &[u8], count: &mut u8) -> u8 {
+fn thirteen_taken(place: usize, record: &[u8], count: &mut u8) -> u8 {
     let cut = |byte: &mut u8| *byte -= (*byte == SPLIT_VOTES_LAST + 1) as u8;
-    let change = |bytes: &mut Bytes| cut(&mut bytes[layout::OLDEST_SPLIT_VOTES]);
+    let change = |bytes: &mut Bytes| cut(&mut bytes[place]);
     changed(change, record, count)
+}
+
+fn of_waiting(record: &[u8], count: &mut u8) -> u8 {
+    let number = right(record, count);
+    let waiting = decode(record).and_then(|device| device.usart.receiver.waiting);
+    *count = waiting.map_or(*count, |frame| frame.split_votes);
+    number
 }
 
 fn more_than_decided_taken(record: &[u8], count: &mut u8) -> u8 {
@@ -140,6 +161,25 @@ fn without_frame_taken(record: &[u8], count: &mut u8) -> u8 {
     let change = |bytes: &mut Bytes| {
         if bytes[layout::FRAMES_HELD] < 2 {
             bytes[layout::SECOND_SPLIT_VOTES] = 0;
+        }
+    };
+    changed(change, record, count)
+}
+
+fn without_waiting_taken(record: &[u8], count: &mut u8) -> u8 {
+    let change = |bytes: &mut Bytes| {
+        if bytes[layout::FRAME_WAITS] == 0 {
+            bytes[layout::WAITING_SPLIT_VOTES] = 0;
+        }
+    };
+    changed(change, record, count)
+}
+
+fn waiting_without_two_taken(record: &[u8], count: &mut u8) -> u8 {
+    let change = |bytes: &mut Bytes| {
+        if bytes[layout::FRAMES_HELD] < 2 && bytes[layout::FRAME_WAITS] == 1 {
+            bytes[layout::FRAME_WAITS] = 0;
+            bytes[layout::WAITING_DATA..=layout::WAITING_SPLIT_VOTES].fill(0);
         }
     };
     changed(change, record, count)

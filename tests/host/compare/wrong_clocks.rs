@@ -111,6 +111,27 @@ pub fn split_not_counted(device: &mut Device, level: u8) -> u8 {
     output
 }
 
+/// A frame that waits stays, whatever start is accepted.
+pub fn waiting_not_lost(device: &mut Device, level: u8) -> u8 {
+    let before = device.usart.receiver;
+    let output = device.clock(level);
+    if before.waiting.is_some() {
+        device.usart.receiver.waiting = before.waiting;
+        device.usart.receiver.lost = before.lost;
+    }
+    output
+}
+
+/// A frame that completes with both places full goes.
+pub fn none_waits(device: &mut Device, level: u8) -> u8 {
+    let before = device.usart.receiver.waiting;
+    let output = device.clock(level);
+    if before.is_none() {
+        device.usart.receiver.waiting = None;
+    }
+    output
+}
+
 /// The next low sample is a start, whatever the one before it was.
 pub fn low_is_a_start(device: &mut Device, level: u8) -> u8 {
     if let Line::Idle { last } = &mut device.usart.receiver.line {

@@ -19,10 +19,10 @@ use crate::wrong_asks;
 use crate::wrong_ways::*;
 
 #[rustfmt::skip] // a line each
-const WRONG: [(&str, Way); 24] = [
+const WRONG: [(&str, Way); 27] = [
     ("not cleared for the next frame", Way { begin: after_any, ..RIGHT }),
     ("a dropped start's vote goes to the next frame", Way { begin: after_dropped, ..RIGHT }),
-    ("a lost frame's count goes to the next frame", Way { begin: after_lost, ..RIGHT }),
+    ("a lost frame's count goes to the next frame", Way { accept: hand_on, ..RIGHT }),
     ("the start bit not counted", Way { vote: |vote| all_but(START, vote), ..RIGHT }),
     ("data bits not counted", Way { vote: |vote| all_but(DATA, vote), ..RIGHT }),
     ("the parity bit not counted", Way { vote: |vote| all_but(PARITY, vote), ..RIGHT }),
@@ -38,10 +38,13 @@ const WRONG: [(&str, Way); 24] = [
     ("the last vote not looked at", Way { vote: |vote| of_two([0, 1], vote), ..RIGHT }),
     ("low bits alone", Way { vote: |vote| voted(false, vote), ..RIGHT }),
     ("high bits alone", Way { vote: |vote| voted(true, vote), ..RIGHT }),
-    ("a lost frame's count put to the second", Way { enter: enter_over_second, ..RIGHT }),
+    ("the count of one that waits put to the second", Way { enter: enter_over_second, ..RIGHT }),
+    ("no count of one that waits", Way { enter: enter_without_waiting, ..RIGHT }),
+    ("the second's count lost with the one that waits", Way { accept: lose_second, ..RIGHT }),
     ("no count beside DOR", Way { enter: enter_without_dor, ..RIGHT }),
     ("a read takes the newest frame's count", Way { take: take_newest, ..RIGHT }),
     ("the newest frame's", Way { answer: |held, _| newest(held), ..RIGHT }),
+    ("the one's that waits", Way { answer: |held, _| *held.get(2).unwrap_or(&oldest(held)), ..RIGHT }),
     ("the frame's under way", Way { answer: |held, under_way| under_way.unwrap_or(oldest(held)), ..RIGHT }),
     ("the frame's under way where none is held", Way { answer: oldest_or, ..RIGHT }),
 ];

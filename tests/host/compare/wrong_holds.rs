@@ -19,7 +19,7 @@ const REFUSALS: &Scene = &hold_refusals::SCENE;
 const SPLITS: &Scene = &hold_splits::SCENE;
 
 #[rustfmt::skip] // a line each
-const WRONG: [(&str, Hold, &Scene); 27] = [
+const WRONG: [(&str, Hold, &Scene); 29] = [
     ("a clock too few", |r, l, n, o| by(r, l, n, o, a_clock_too_few), LENGTHS),
     ("a clock too many", |r, l, n, o| by(r, l, n, o, a_clock_too_many), LENGTHS),
     ("a clock too few where the last is a tick", |r, l, n, o| by(r, l, n, o, not_the_last_tick), LENGTHS),
@@ -34,6 +34,8 @@ const WRONG: [(&str, Hold, &Scene); 27] = [
     ("a sample is not remembered", |r, l, n, o| each(r, l, n, o, sample_not_remembered), BREAKS),
     ("a break goes on as a new start", |r, l, n, o| each(r, l, n, o, low_is_a_start), BREAKS),
     ("a split vote not counted", |r, l, n, o| each(r, l, n, o, split_not_counted), CALLS),
+    ("a frame that waits not lost", |r, l, n, o| each(r, l, n, o, waiting_not_lost), LENGTHS),
+    ("no frame waits", |r, l, n, o| each(r, l, n, o, none_waits), LENGTHS),
     ("SCK is not kept", |r, l, n, o| by(r, l, n, o, sck_not_kept), LENGTHS),
     ("TXC a tick late", |r, l, n, o| by(r, l, n, o, txc_late), LENGTHS),
     ("the buffer not taken where a frame ends", |r, l, n, o| each(r, l, n, o, buffer_not_taken), LENGTHS),

@@ -1,11 +1,13 @@
 //! Ways to count split votes (wrong_counts.rs): the right one, and what is wrong on purpose in the others.
 
 use crate::counter::{Ended, Vote, Way};
+use crate::model::layout::held::SPLIT_VOTES_LAST;
 
 pub const RIGHT: Way = Way {
     begin: |_| 0,
     vote: counted,
     enter: enter_in_order,
+    accept: lose_waiting,
     take: take_oldest,
     answer: |held, _| oldest(held),
 };
@@ -73,7 +75,7 @@ pub fn voted(high: bool, vote: &Vote) -> u8 {
 
 pub fn after_any(ended: Ended) -> u8 {
     match ended {
-        Ended::Stored(count) | Ended::Lost(count) | Ended::Dropped(count) => count,
+        Ended::Completed(count) | Ended::Dropped(count) => count,
     }
 }
 
@@ -84,22 +86,41 @@ pub fn after_dropped(ended: Ended) -> u8 {
     }
 }
 
-pub fn after_lost(ended: Ended) -> u8 {
-    match ended {
-        Ended::Lost(count) => count,
-        _ => 0,
-    }
-}
-
+/// M-103: 'with both places full a completed frame waits', behind the two.
 pub fn enter_in_order(held: &mut Vec<u8>, count: u8, _: bool) {
-    if held.len() < 2 {
-        held.push(count);
+    held.push(count);
+}
+
+/// The count of a frame that waits takes the second one's place, too.
+pub fn enter_over_second(held: &mut Vec<u8>, count: u8, _: bool) {
+    held.push(count);
+    if held.len() > 2 {
+        held[1] = count;
     }
 }
 
-pub fn enter_over_second(held: &mut Vec<u8>, count: u8, _: bool) {
-    held.truncate(1);
-    held.push(count);
+pub fn enter_without_waiting(held: &mut Vec<u8>, count: u8, _: bool) {
+    held.push(if held.len() < 2 { count } else { 0 });
+}
+
+/// M-103: 'an accepted start bit (its last vote) while one waits loses that one'.
+fn lose_waiting(held: &mut Vec<u8>, count: u8) -> u8 {
+    held.truncate(2);
+    count
+}
+
+/// The lost frame's count goes to the next one, within the most that there can be.
+pub fn hand_on(held: &mut Vec<u8>, count: u8) -> u8 {
+    let lost = held.get(2).map_or(0, |count| *count);
+    (lose_waiting(held, count) + lost).min(SPLIT_VOTES_LAST)
+}
+
+/// The count of the frame that waits takes the second one's place.
+pub fn lose_second(held: &mut Vec<u8>, count: u8) -> u8 {
+    if held.len() > 2 {
+        held.remove(1);
+    }
+    count
 }
 
 pub fn enter_without_dor(held: &mut Vec<u8>, count: u8, dor: bool) {

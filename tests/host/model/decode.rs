@@ -9,9 +9,11 @@ use super::spi::{Flag, Spi, EDGES, MSTR, SPE};
 use super::usart::{Usart, RXCIE, RXEN, TXB8, TXC, TXCIE, TXEN, U2X, UBRR_LAST, UCSZ2, UDRIE, USBS};
 use super::Device;
 
-/// The bytes of the frames held: data bits 7 to 0, the ninth with the flags, and the split votes.
+/// The bytes of the frames held, and of the one that waits: data bits 7 to 0, the ninth with the flags, and the split
+/// votes.
 const OLDEST: [usize; 3] = [layout::OLDEST_DATA, layout::OLDEST_FLAGS, layout::OLDEST_SPLIT_VOTES];
 const SECOND: [usize; 3] = [layout::SECOND_DATA, layout::SECOND_FLAGS, layout::SECOND_SPLIT_VOTES];
+const WAITING: [usize; 3] = [layout::WAITING_DATA, layout::WAITING_FLAGS, layout::WAITING_SPLIT_VOTES];
 
 /// The device of the fields in use, none if one is out of its range or does not fit the others. Bits and bytes not in
 /// use are not looked at.
@@ -102,21 +104,33 @@ fn get_receiver(bytes: &Bytes, format: &Format) -> Option<Receiver> {
         },
         true => Line::Frame(get_receiving(bytes, format)?),
     };
-    let (mut oldest, mut second) = (None, None);
-    let frames_held = get_below(bytes, layout::FRAMES_HELD, 3)?;
-    if frames_held > 0 {
-        oldest = Some(get_received(bytes, OLDEST)?);
-    }
-    if frames_held > 1 {
-        second = Some(get_received(bytes, SECOND)?);
-    }
-    Some(Receiver {
+    let mut receiver = Receiver {
         rxen: true,
         line,
-        oldest,
-        second,
         lost: get_bool(bytes, layout::FRAME_LOST)?,
-    })
+        ..Receiver::reset()
+    };
+    let frames_held = get_below(bytes, layout::FRAMES_HELD, 3)?;
+    if frames_held > 0 {
+        receiver.oldest = Some(get_received(bytes, OLDEST)?);
+    }
+    if frames_held > 1 {
+        receiver.second = Some(get_received(bytes, SECOND)?);
+    }
+    if get_bool(bytes, layout::FRAME_WAITS)? {
+        receiver.waiting = Some(get_received(bytes, WAITING)?);
+    }
+    waiting_fits(&receiver, format).then_some(receiver)
+}
+
+/// M-103: a frame waits only 'with both places full', and only until 'an accepted start bit (its last vote)' loses it:
+/// the start bit of a frame under way is not decided yet.
+fn waiting_fits(receiver: &Receiver, format: &Format) -> bool {
+    let is_accepted = match &receiver.line {
+        Line::Idle { .. } => false,
+        Line::Frame(frame) => frame.bits_decided(format) > 0,
+    };
+    receiver.waiting.is_none() || receiver.second.is_some() && !is_accepted
 }
 
 fn get_receiving(bytes: &Bytes, format: &Format) -> Option<Receiving> {
@@ -147,7 +161,7 @@ fn get_receiving(bytes: &Bytes, format: &Format) -> Option<Receiving> {
     (begun && votes_fit && word_fits && splits_fit).then_some(frame)
 }
 
-/// A frame held, by the places of its bytes. It is not bound by the format.
+/// A frame that is held or waits, by the places of its bytes. It is not bound by the format.
 fn get_received(bytes: &Bytes, [data, flags, split_votes]: [usize; 3]) -> Option<Received> {
     let ninth = (get_below(bytes, flags, held::LIMIT)? & held::NINTH) as u16;
     Some(Received {

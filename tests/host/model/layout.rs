@@ -30,16 +30,20 @@ pub const SECOND_VOTE: usize = 21;
 pub const RECEIVED_WORD: usize = 22;
 pub const SPLIT_VOTES: usize = 24;
 pub const FRAMES_HELD: usize = 25;
+pub const FRAME_WAITS: usize = 26;
 pub const FRAME_LOST: usize = 27;
-/// Data bits 7 to 0 of the frames held.
+/// Data bits 7 to 0 of the frames held, and of the one that waits.
 pub const OLDEST_DATA: usize = 28;
 pub const SECOND_DATA: usize = 31;
-/// The ninth data bit and the flags of the frames held.
+pub const WAITING_DATA: usize = 34;
+/// The ninth data bit and the flags of each.
 pub const OLDEST_FLAGS: usize = 29;
 pub const SECOND_FLAGS: usize = 32;
-/// The split votes of the frames held.
+pub const WAITING_FLAGS: usize = 35;
+/// The split votes of each.
 pub const OLDEST_SPLIT_VOTES: usize = 30;
 pub const SECOND_SPLIT_VOTES: usize = 33;
+pub const WAITING_SPLIT_VOTES: usize = 36;
 
 // The SPI.
 pub const SPCR: usize = 48;
@@ -61,10 +65,10 @@ pub const NUMBER_PLACE: usize = 63;
 
 /// Bytes that are unused, or wait for a request of document 02: always 0.
 pub fn is_unused(place: usize) -> bool {
-    matches!(place, 7 | 26 | 34..=47 | 60..=62)
+    matches!(place, 7 | 37..=47 | 60..=62)
 }
 
-/// Bits of the byte that has the ninth data bit and the flags of a frame held.
+/// Bits of the byte that has the ninth data bit and the flags of a frame that is held or waits.
 pub mod held {
     pub const NINTH: u8 = 0x01;
     pub const UPE: u8 = 0x02;
@@ -72,7 +76,7 @@ pub mod held {
     pub const FE: u8 = 0x08;
     /// Values of the byte.
     pub const LIMIT: u8 = 0x10;
-    /// The most split votes of a frame held, whatever the format is: those of start bit, nine data bits, parity and
+    /// The most split votes of such a frame, whatever the format is: those of start bit, nine data bits, parity and
     /// first stop bit.
     pub const SPLIT_VOTES_LAST: u8 = 12;
 }

@@ -1,5 +1,5 @@
 //! A model of the ATmega328P's USART0 (asynchronous) and SPI, one clock at a time, written from document 01, and M-101
-//! of document 02, alone. It is compared with the archive by `compare.rs`.
+//! and M-103 of document 02, alone. It is compared with the archive by `compare.rs`.
 
 mod decode;
 pub mod frame;

@@ -1,9 +1,10 @@
 //! The receiver (document 01, 'Receiver'): sampling and voting of RxD, and the buffer of two frames. Each frame has the
-//! count of its split votes (document 02, M-101).
+//! count of its split votes (document 02, M-101). A third one waits behind the two (document 02, M-103, which takes the
+//! place of document 01's 'A frame that completes with both places full is lost').
 
 use super::frame::{Format, Parity};
 
-/// A frame in the receive buffer.
+/// A frame in the receive buffer, or one that waits for a place in it.
 #[derive(Clone, Copy, PartialEq, Debug)]
 pub struct Received {
     pub data: u16,
@@ -37,6 +38,18 @@ pub struct Receiving {
     pub split_votes: u8,
 }
 
+/// What a sample does to the frame under way.
+#[derive(Clone, Copy, PartialEq)]
+enum Sampled {
+    GoesOn,
+    /// The start bit was voted low, by its last vote.
+    Accepted,
+    /// The start bit was voted high.
+    Dropped,
+    /// The stop bit's last vote.
+    Completed,
+}
+
 #[derive(Clone, Copy, PartialEq, Debug)]
 pub enum Line {
     Idle { last: bool },
@@ -49,7 +62,9 @@ pub struct Receiver {
     pub line: Line,
     pub oldest: Option<Received>,
     pub second: Option<Received>,
-    /// A frame was lost; the next one stored carries DOR.
+    /// M-103: 'with both places full a completed frame waits'. It is not seen until it has moved in.
+    pub waiting: Option<Received>,
+    /// A frame was lost; 'the next frame that completes carries DOR' (M-103).
     pub lost: bool,
 }
 
@@ -61,26 +76,31 @@ impl Receiver {
             line: Line::Idle { last: false },
             oldest: None,
             second: None,
+            waiting: None,
             lost: false,
         }
     }
 
-    /// Sets RXEN. Clearing it drops the frame under way, the buffer and a pending loss.
+    /// Sets RXEN. Clearing it drops the frame under way, the buffer and a pending loss, and 'drops the waiting one too'
+    /// (M-103).
     pub fn enable(&mut self, rxen: bool) {
         if rxen != self.rxen {
             *self = Receiver { rxen, ..Receiver::reset() };
         }
     }
 
+    /// Between first low sample and stop decision; a frame that waits is past its own.
     #[inline]
     pub fn busy(&self) -> bool {
         matches!(self.line, Line::Frame(_))
     }
 
-    /// A read of UDR0: takes the oldest frame away; 0 when there is none.
+    /// A read of UDR0: takes the oldest frame away; 0 when there is none. M-103, of the frame that waits: 'a UDR0 read
+    /// moves it in at once'.
     pub fn take(&mut self) -> u8 {
         let data = self.oldest.map_or(0, |frame| frame.data as u8);
         self.oldest = self.second.take();
+        self.second = self.waiting.take();
         data
     }
 
@@ -107,30 +127,28 @@ impl Receiver {
                 });
             }
             Line::Idle { last } => *last = rxd,
-            Line::Frame(frame) => {
-                if frame.sample(rxd, format) {
-                    let ended = *frame;
-                    self.end(&ended, rxd, format);
+            Line::Frame(frame) => match frame.sample(rxd, format) {
+                Sampled::GoesOn => (),
+                Sampled::Accepted => self.lose_waiting(),
+                // Its votes belong to no frame, and it loses none.
+                Sampled::Dropped => self.line = Line::Idle { last: rxd },
+                Sampled::Completed => {
+                    let completed = *frame;
+                    self.store(&completed, !completed.majority(rxd).high, format);
+                    self.line = Line::Idle { last: rxd };
                 }
-            }
+            },
         }
     }
 
-    /// The frame under way ends at this sample: a dropped start bit, whose votes belong to no frame, or the stop bit's
-    /// last vote.
-    fn end(&mut self, frame: &Receiving, rxd: bool, format: &Format) {
-        if frame.bit > 0 {
-            self.store(frame, !frame.majority(rxd).high, format);
-        }
-        self.line = Line::Idle { last: rxd };
+    /// M-103: 'an accepted start bit (its last vote) while one waits loses that one', its flags and split votes too.
+    fn lose_waiting(&mut self) {
+        self.lost |= self.waiting.take().is_some();
     }
 
-    /// Puts a completed frame into the buffer, or loses it, and its split votes, when both places are full.
+    /// Puts a completed frame into the buffer, or has it wait: 'with both places full a completed frame waits' (M-103).
+    /// None waits by then, since the frame's own start was accepted. A pending loss is used up here, wherever it goes.
     fn store(&mut self, completed: &Receiving, fe: bool, format: &Format) {
-        if self.second.is_some() {
-            self.lost = true;
-            return;
-        }
         let data = completed.word & format.data_mask();
         let upe = format.parity != Parity::Off && completed.word != format.word_of(data);
         let frame = Received {
@@ -143,8 +161,10 @@ impl Receiver {
         self.lost = false;
         if self.oldest.is_none() {
             self.oldest = Some(frame);
-        } else {
+        } else if self.second.is_none() {
             self.second = Some(frame);
+        } else {
+            self.waiting = Some(frame);
         }
     }
 }
@@ -160,9 +180,9 @@ impl Receiving {
         }
     }
 
-    /// One more sample. True when the frame ends with it.
+    /// One more sample.
     #[inline]
-    fn sample(&mut self, rxd: bool, format: &Format) -> bool {
+    fn sample(&mut self, rxd: bool, format: &Format) -> Sampled {
         self.samples += 1;
         let last_vote = format.last_vote();
         if self.samples + 2 == last_vote {
@@ -175,22 +195,26 @@ impl Receiving {
             self.bit += 1;
             self.samples = 0;
         }
-        false
+        Sampled::GoesOn
     }
 
-    /// The last vote of a bit; a split one is counted. True when the frame ends: a start bit voted high, or the stop
-    /// bit. Else the votes kept have done their work.
-    fn decide(&mut self, rxd: bool, format: &Format) -> bool {
+    /// The last vote of a bit; a split one is counted. Where the frame does not end, the votes kept have done their
+    /// work.
+    fn decide(&mut self, rxd: bool, format: &Format) -> Sampled {
         let Decision { high, split } = self.majority(rxd);
         self.split_votes += split as u8;
-        if self.bit == 0 && high || self.bit > format.word_bits() {
-            return true;
+        if self.bit > format.word_bits() {
+            return Sampled::Completed;
         }
-        if self.bit > 0 {
-            self.word = self.word >> 1 | (high as u16) << (format.word_bits() - 1);
+        if self.bit == 0 && high {
+            return Sampled::Dropped;
         }
         self.votes = [false; 2];
-        false
+        if self.bit == 0 {
+            return Sampled::Accepted;
+        }
+        self.word = self.word >> 1 | (high as u16) << (format.word_bits() - 1);
+        Sampled::GoesOn
     }
 
     /// How many votes of the bit being sampled are kept: those that are cast, until the last one decides.

@@ -70,6 +70,7 @@ fn put_receiver(bytes: &mut Bytes, receiver: &Receiver) {
         }
     }
     bytes[layout::FRAMES_HELD] = receiver.oldest.is_some() as u8 + receiver.second.is_some() as u8;
+    bytes[layout::FRAME_WAITS] = receiver.waiting.is_some() as u8;
     bytes[layout::FRAME_LOST] = receiver.lost as u8;
     let [data, flags, split_votes] = received_bytes(receiver.oldest);
     bytes[layout::OLDEST_DATA] = data;
@@ -79,9 +80,14 @@ fn put_receiver(bytes: &mut Bytes, receiver: &Receiver) {
     bytes[layout::SECOND_DATA] = data;
     bytes[layout::SECOND_FLAGS] = flags;
     bytes[layout::SECOND_SPLIT_VOTES] = split_votes;
+    let [data, flags, split_votes] = received_bytes(receiver.waiting);
+    bytes[layout::WAITING_DATA] = data;
+    bytes[layout::WAITING_FLAGS] = flags;
+    bytes[layout::WAITING_SPLIT_VOTES] = split_votes;
 }
 
-/// Data bits 7 to 0 of a frame held, the byte with the ninth and the flags, and its split votes; 0 for none.
+/// Data bits 7 to 0 of a frame that is held or waits, the byte with the ninth and the flags, and its split votes; 0 for
+/// none.
 fn received_bytes(frame: Option<Received>) -> [u8; 3] {
     frame.map_or([0; 3], |frame| {
         let flags = bit(frame.data & 0x100 != 0, held::NINTH)

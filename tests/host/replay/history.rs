@@ -8,6 +8,10 @@ use crate::trace::Item;
 pub struct Seen {
     pub clocks: u64,
     pub frames_received: u64,
+    /// Frames that waited (M-103), and those of them that a read moved in, or an accepted start lost.
+    pub frames_waited: u64,
+    pub frames_moved_in: u64,
+    pub frames_lost: u64,
     pub frames_sent: u64,
     pub spi_bytes: u64,
     /// Calls by their number.
@@ -47,7 +51,10 @@ impl History {
     }
 
     pub fn read(&mut self, address: u16) {
+        let one_waited = self.device.usart.receiver.waiting.is_some();
         let (answer, value) = self.device.read(address);
+        let one_waits = self.device.usart.receiver.waiting.is_some();
+        self.seen.frames_moved_in += (one_waited && !one_waits) as u64;
         self.note(answer);
         self.push(Item::Read {
             address: address as u8,
@@ -101,9 +108,13 @@ impl Seen {
     fn count_clock(&mut self, before: &Device, after: &Device, level: u8) {
         self.clocks += 1;
         let (old, new) = (&before.usart.receiver, &after.usart.receiver);
-        let stored = old.oldest.is_none() && new.oldest.is_some()
-            || old.second.is_none() && new.second.is_some();
-        self.frames_received += stored as u64;
+        let waits = old.waiting.is_none() && new.waiting.is_some();
+        let completed = old.oldest.is_none() && new.oldest.is_some()
+            || old.second.is_none() && new.second.is_some()
+            || waits;
+        self.frames_received += completed as u64;
+        self.frames_waited += waits as u64;
+        self.frames_lost += (old.waiting.is_some() && new.waiting.is_none()) as u64;
         // A buffer emptied by a clock has moved to the shifter.
         let moved = before.usart.sender.buffer.is_some() && after.usart.sender.buffer.is_none();
         self.frames_sent += moved as u64;
@@ -116,6 +127,9 @@ impl Seen {
     pub fn add(&mut self, other: &Seen) {
         self.clocks += other.clocks;
         self.frames_received += other.frames_received;
+        self.frames_waited += other.frames_waited;
+        self.frames_moved_in += other.frames_moved_in;
+        self.frames_lost += other.frames_lost;
         self.frames_sent += other.frames_sent;
         self.spi_bytes += other.spi_bytes;
         for (sum, number) in self.numbers.iter_mut().zip(other.numbers) {

@@ -114,6 +114,11 @@ fn receive(history: &mut History, random: &mut Random) {
 }
 
 fn send_frame(history: &mut History, random: &mut Random) {
+    send_frame_read(history, None, random);
+}
+
+/// The same, with what is held read after so many clocks of it, from 1, or as soon as the line is high.
+fn send_frame_read(history: &mut History, mut read_after: Option<u64>, random: &mut Random) {
     let Some(bit) = bit_clocks(history) else {
         return;
     };
@@ -138,7 +143,13 @@ fn send_frame(history: &mut History, random: &mut Random) {
         };
         let same = u64::from(same).min(left);
         history.set_pin(level::RXD, high);
-        history.hold(same * length);
+        let clocks = same * length;
+        let before = read_after.take().map_or(0, |read| read.min(clocks));
+        history.hold(before);
+        if before > 0 {
+            read_frame(history, random);
+        }
+        history.hold(clocks - before);
         bits = bits.checked_shr(same as u32).unwrap_or(0);
         left -= same;
     }
@@ -153,14 +164,18 @@ fn read_frame(history: &mut History, _: &mut Random) {
     history.read(address::UDR0);
 }
 
-/// As M10: three frames unread, two reads, a fourth frame.
+/// As M10, and around it (M-103): three frames unread, the last of which waits, or more, and one that waited is lost;
+/// then reads before the next frame's start, or one within its start bit, and what is left.
 fn overrun(history: &mut History, random: &mut Random) {
     if random.percent(60) {
         return receive(history, random);
     }
-    (0..3).for_each(|_| send_frame(history, random));
-    (0..2).for_each(|_| read_frame(history, random));
-    receive(history, random);
+    (0..random.between(3, 4)).for_each(|_| send_frame(history, random));
+    (0..random.below(3)).for_each(|_| read_frame(history, random));
+    let bit = bit_clocks(history).unwrap_or(1);
+    let read_after = random.flip().then(|| random.between(1, bit));
+    send_frame_read(history, read_after, random);
+    (0..random.below(4)).for_each(|_| read_frame(history, random));
 }
 
 /// A byte, or a part of one, as master with divisor 2, 4, 8 or 16, and the flags after it.

@@ -73,6 +73,9 @@ impl Tally {
             ("recorded traces", self.recorded, 12_000),
             ("answers changed", self.changed, 20_000),
             ("frames received", self.seen.frames_received, 10_000),
+            ("frames that waited", self.seen.frames_waited, 2_000),
+            ("frames moved in", self.seen.frames_moved_in, 500),
+            ("frames lost", self.seen.frames_lost, 500),
             ("frames sent", self.seen.frames_sent, 8_000),
             ("SPI bytes", self.seen.spi_bytes, 7_000),
         ];
@@ -93,8 +96,8 @@ impl Tally {
         let (all, damaged) = (&self.all, &self.damaged);
         println!(
             "replay: {} texts ({} done, {} of 9, {} of 10, {} of 5), of them {} damaged ({} done, {} of 9, {} of 10), \
-             {} recorded ({} clocks, {} frames received, {} sent, {} SPI bytes), {} with an answer changed: \
-             no difference; {wrong} wrong programs seen",
+             {} recorded ({} clocks, {} frames received, of which {} waited, {} moved in and {} were lost, {} sent, \
+             {} SPI bytes), {} with an answer changed: no difference; {wrong} wrong programs seen",
             all.sum(),
             all.done,
             all.malformed,
@@ -107,6 +110,9 @@ impl Tally {
             self.recorded,
             self.seen.clocks,
             self.seen.frames_received,
+            self.seen.frames_waited,
+            self.seen.frames_moved_in,
+            self.seen.frames_lost,
             self.seen.frames_sent,
             self.seen.spi_bytes,
             self.changed

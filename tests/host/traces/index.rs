@@ -1,4 +1,4 @@
-//! INDEX.md: a row for each trace, and each former case in one of them.
+//! INDEX.md: a row for each trace, and each former case in one of them, or the request with which the trace came.
 
 use std::collections::BTreeSet;
 
@@ -37,8 +37,11 @@ fn cells(text: &str) -> Option<[&str; 3]> {
     cells[2].ends_with(|last: char| last.is_ascii_digit()).then_some(cells)
 }
 
-/// As 'serial 1, 2; spi 1'.
+/// As 'serial 1, 2; spi 1'; none for a request, as 'M-103'.
 fn cases_of(held: &str) -> Option<Vec<String>> {
+    if is_request(held) {
+        return Some(Vec::new());
+    }
     let mut cases = Vec::new();
     for part in held.split("; ") {
         let (program, numbers) = part.split_once(' ')?;
@@ -47,6 +50,10 @@ fn cases_of(held: &str) -> Option<Vec<String>> {
         cases.extend(numbered(program, numbers?));
     }
     Some(cases)
+}
+
+fn is_request(held: &str) -> bool {
+    held.strip_prefix("M-").is_some_and(|number| number.parse::<u32>().is_ok())
 }
 
 fn numbered(program: &str, numbers: impl IntoIterator<Item = u32>) -> Vec<String> {

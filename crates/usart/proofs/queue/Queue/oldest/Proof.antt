@@ -11,4 +11,5 @@ returns-4 c = rw (c .before .p3 .given .1)
 pub oldest-spec : {M : Type 1} → statement M
 oldest-spec =
     tie.close
-    (tie.spec (λ c. search needs) (λ c. search needs) (λ c. search needs) (λ c. search needs) returns (λ c. search needs) (λ c. search needs) returns-4)
+    (tie.spec (λ c. search needs) (λ c. search needs) (λ c. search needs) (λ c. search needs)
+    returns (λ c. search needs) (λ c. search needs) returns-4)
