@@ -56,8 +56,8 @@ readsOf s cs = gathered takenBy s cs
 abbrev pub arrivalsOf : List ℕ → List Call → List Arrival
 arrivalsOf s cs = along (λ j s c. arrivalsAt j (usartOf s) (clocksOf (effect s c .levels))) 0 s cs
 
--- what comes of the calls on the record s of the device d: the frames read, then those held in the last record, then one
--- that still waits there, are the line's, in time
+-- what comes of the calls on the record s of the device d: the frames read, then those held in the last record, then
+-- one that still waits there, are the line's, in time
 abbrev pub DeliveredBy : ℕ → ℕ → List Sent → Device → List ℕ → List Call → Type 0
 DeliveredBy P Q fs d s cs =
     let u = usartOf (finalRecord s cs) in

@@ -87,8 +87,8 @@ beyond =
     map (λ (c : ℕ × ℕ). set busy (c .0) (c .1))
     ((1, 16) ∷ (2, 4) ∷ (10, 1) ∷ (13, 0) ∷ (14, 12) ∷ (15, 8) ∷ (17, 1) ∷ (18, 11) ∷ (19, 8) ∷ (22, 1) ∷ (24, 3) ∷ (25, 3) ∷ (30, 13) ∷ (33, 13) ∷ (54, 5) ∷ (55, 3) ∷ (63, 1) ∷ [])
 
--- of the one with a frame that waits: its flag and its bytes out of their ranges; one held too few; the start bit of the
--- frame under way decided, with its last vote and in the next bit
+-- of the one with a frame that waits: its flag and its bytes out of their ranges; one held too few; the start bit of
+-- the frame under way decided, with its last vote and in the next bit
 abbrev tooFar : List (List ℕ)
 tooFar =
     map (λ (c : ℕ × ℕ). set waiting (c .0) (c .1)) ((26, 0) ∷ (26, 2) ∷ (35, 16) ∷ (36, 13) ∷ [])

@@ -51,7 +51,8 @@ taken-none (One a) = refl
 taken-none (Two a b) = refl
 taken-none (Three a b c) = refl
 
--- after a tick that leads to s with this outcome; a frame that completes finds none waiting, and leaves the sampler idle
+-- after a tick that leads to s with this outcome; a frame that completes finds none waiting, and leaves the sampler
+-- idle
 abbrev pub WaitingFor : Format → Sampler → Places → Outcome → Type 0
 WaitingFor f s p Nothing = ValidWaiting f s p
 WaitingFor f s p Started = Unit {0}

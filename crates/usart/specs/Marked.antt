@@ -12,8 +12,8 @@ use Rattle.usart.specs.Receiving.{Seen, readsOf}
 use Rattle.usart.specs.declared.unit.Usart.{Usart}
 use Rattle.usart.specs.declared.write.Register.the-variants.{Ucsr0a, Ucsr0b, Udr0}
 
--- M8: UBRR 0, 8 bits, no parity, 1 stop, one byte written: start bit on clock 1, UDRE back on clock 1, TXC on clock 161.
--- After reset, TXEN is set and the byte v written
+-- M8: UBRR 0, 8 bits, no parity, 1 stop, one byte written: start bit on clock 1, UDRE back on clock 1, TXC on clock
+-- 161. After reset, TXEN is set and the byte v written
 unfoldable pub sending : ℕ → Usart
 sending v = finalOf resetUsart (write Ucsr0b 0x08 ∷ write Udr0 v ∷ [])
 

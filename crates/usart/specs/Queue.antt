@@ -1,5 +1,5 @@
--- The receive buffer of two places (document 01, 'Receiver', second paragraph), and the frame that waits for one of them
--- in the shift register (document 02, M-103).
+-- The receive buffer of two places (document 01, 'Receiver', second paragraph), and the frame that waits for one of
+-- them in the shift register (document 02, M-103).
 use mathlib.Core.Bool.{Bool, true, false}
 use mathlib.Core.List.{List, [], _∷_, _++_}
 use Rattle.usart.specs.declared.queue.Frame.{Frame}
@@ -38,9 +38,9 @@ markedOf f d = record { «data» = f .«data»; fe = f .fe; upe = f .upe; dor = 
 abbrev pub holding : Places → Queue
 holding p = record { places = p; lost = false }
 
--- M-103: 'with both places full a completed frame waits'. After a loss it is 'the next frame that completes' and carries
--- DOR, held or waiting. (While one waits none completes: the start of the frame that would has lost the one before.
--- Where it is not so, the one that waits is lost here.)
+-- M-103: 'with both places full a completed frame waits'. After a loss it is 'the next frame that completes' and
+-- carries DOR, held or waiting. (While one waits none completes: the start of the frame that would has lost the one
+-- before. Where it is not so, the one that waits is lost here.)
 abbrev pub storedIn : Places → Bool → Frame → Queue
 storedIn Empty lost f = holding (One (markedOf f lost))
 storedIn (One a) lost f = holding (Two a (markedOf f lost))

@@ -1,5 +1,5 @@
--- Demand 3 at the serial unit, as M-103 of document 02 changes it: what is asked of the unit, the list and the line, and
--- what comes of them.
+-- Demand 3 at the serial unit, as M-103 of document 02 changes it: what is asked of the unit, the list and the line,
+-- and what comes of them.
 use Prim.Native.Nat.{ℕ, suc, _+_, _-_, _*_, _%_, _≤_, _<_}
 use mathlib.Core.Bool.{Bool, true, false}
 use mathlib.Core.List.{List, [], _∷_, _++_, map}
@@ -127,8 +127,8 @@ seenIn f = record {
 abbrev pub clean : Sent → Seen
 clean s = record { value = s .«data» % 256; rxb8 = bitAt (s .«data») 8; fe = 0; dor = 0; upe = 0; splits = 0 }
 
--- a frame that completes at a clock: whether a place was free just before it, and whether, after it, one more is held, or
--- one more waits
+-- a frame that completes at a clock: whether a place was free just before it, and whether, after it, one more is held,
+-- or one more waits
 pub record Arrival : Type 0 where
   pub at : ℕ
   pub free : Bool

@@ -65,8 +65,8 @@ mostVotes = 12
 unfoldable pub tallyOf : ℕ → Bool → ℕ
 tallyOf splits unanimous = pick unanimous splits (pick (ltb splits mostVotes) (splits + 1) splits)
 
--- the last vote, by the sample rxd. A start bit voted high is dropped, one voted low is accepted; the frame completes at
--- the first stop bit's. Then, and after a dropped start, the receiver is idle and remembers that last sample
+-- the last vote, by the sample rxd. A start bit voted high is dropped, one voted low is accepted; the frame completes
+-- at the first stop bit's. Then, and after a dropped start, the receiver is idle and remembers that last sample
 unfoldable pub decidedOf : Format → Reception → Bool → Bool → Sampled
 decidedOf f r rxd level =
     pick (eqb (r .bit) 0) (pick level (still (Idle rxd)) (record { sampler = Receiving r; outcome = Started }))
