@@ -15,6 +15,7 @@ pub mod ReadLaws
 pub mod WriteLaws
 pub mod EventLaws
 pub mod ClockLaws
+pub mod RoomLaws
 pub mod ReceivingLine
 pub mod TickLaws
 pub mod SendingLine
