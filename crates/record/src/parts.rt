@@ -9,7 +9,7 @@ use usart::Sender;
 use usart::ShiftRegister;
 use usart::Transmission;
 ghost use mathlib.Core.Path.{_≡_};
-ghost use Rattle.record.specs.Parts.{bufferData, bufferFrom, transmissionIn, shifterFrom, rememberedIn, receptionIn, samplerFrom, heldCount, secondIn, isWaiting, thirdIn, placesFrom, senderParts, receiverParts};
+ghost use Rattle.record.specs.Parts.{bufferData, bufferFrom, transmissionIn, shifterFrom, rememberedIn, receptionIn, samplerFrom, heldCount, secondIn, isWaiting, thirdIn, senderParts, receiverParts};
 
 // What the bytes hold of a sender, but TXC.
 pub struct SenderParts {
@@ -179,22 +179,6 @@ fn third(p: Places) -> Frame
         Places::Two(_, _) => none,
         Places::Three(_, _, c) => c,
     }
-}
-
-// A count above 2 gives any places: a record that has one is refused before it is lifted.
-pub fn places_of(held: u8, waits: bool, a: Frame, b: Frame, c: Frame) -> Places
-    ensures { λ r. ⌜ r ≡ placesFrom held waits a b c ⌝ }
-{
-    if held == 0 {
-        return Places::Empty;
-    }
-    if held == 1 {
-        return Places::One(a);
-    }
-    if waits {
-        return Places::Three(a, b, c);
-    }
-    Places::Two(a, b)
 }
 
 pub fn receiver_parts(r: Receiver) -> ReceiverParts

@@ -4,7 +4,6 @@ use crate::codes::size_code;
 use crate::codes::word;
 use crate::layout;
 use crate::parts::buffer_of;
-use crate::parts::places_of;
 use crate::parts::sampler_of;
 use crate::parts::shifter_of;
 use frame::Format;
@@ -172,17 +171,24 @@ fn frame_at(s: &[u8], i: usize) -> Frame
     frame_of(s[i], s[i + 1], s[i + 2])
 }
 
+// Only frames that are there are lifted. A count above 2 gives any places: a record that has one is refused before.
 fn places_at(s: &[u8]) -> Places
     requires { ⌜ length (now s) ≡ recordLength ⌝ }
     ensures { λ r. ⌜ r ≡ placesAt (now (s .entry)) ⌝ }
 {
-    places_of(
-        s[layout::HELD],
-        s[layout::WAITS] == 1,
-        frame_at(s, layout::OLDEST),
-        frame_at(s, layout::NEXT),
-        frame_at(s, layout::THIRD),
-    )
+    let held = s[layout::HELD];
+    if held == 0 {
+        return Places::Empty;
+    }
+    let a = frame_at(s, layout::OLDEST);
+    if held == 1 {
+        return Places::One(a);
+    }
+    let b = frame_at(s, layout::NEXT);
+    if s[layout::WAITS] == 1 {
+        return Places::Three(a, b, frame_at(s, layout::THIRD));
+    }
+    Places::Two(a, b)
 }
 
 fn queue_with(lost: bool, places: Places) -> Queue
