@@ -183,10 +183,10 @@ module _ (d : Device) (v : Valid d) where
       ▹ received-bit f (d .usart .receiver .sampler) s ▹ received-sample f (d .usart .receiver .sampler) s
       ▹ bit-le (r .reception .first) ▹ bit-le (r .reception .second)
       ▹ low-le (r .reception .word) ▹ high-10 (r .reception .word) (received-lt f (d .usart .receiver .sampler) s)
-      ▹ received-splits f (d .usart .receiver .sampler) s ▹ held-le q ▹ bit-le (r .waits) ▹ bit-le (d .usart .receiver .queue .lost)
-      ▹ low-le (r .oldest .«data») ▹ marks-lt (r .oldest) ▹ valid-oldest q (v .usart .receiver .places) .splits
-      ▹ low-le (r .second .«data») ▹ marks-lt (r .second) ▹ valid-second q (v .usart .receiver .places) .splits
-      ▹ low-le (r .third .«data») ▹ marks-lt (r .third) ▹ valid-third q (v .usart .receiver .places) .splits
+      ▹ received-splits f (d .usart .receiver .sampler) s ▹ held-le q ▹ bit-le (r .frames .waits) ▹ bit-le (d .usart .receiver .queue .lost)
+      ▹ low-le (r .frames .oldest .«data») ▹ marks-lt (r .frames .oldest) ▹ valid-oldest q (v .usart .receiver .places) .splits
+      ▹ low-le (r .frames .second .«data») ▹ marks-lt (r .frames .second) ▹ valid-second q (v .usart .receiver .places) .splits
+      ▹ low-le (r .frames .third .«data») ▹ marks-lt (r .frames .third) ▹ valid-third q (v .usart .receiver .places) .splits
       ▹ none ▹ none ▹ none
       ▹ none ▹ none ▹ none ▹ none ▹ none ▹ none ▹ none ▹ none
       ▹ le-255 _ (v .spi .spcr) ▹ bit-le (d .spi .control .spi2x) ▹ le-255 _ (v .spi .ddrb)

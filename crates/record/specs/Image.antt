@@ -36,7 +36,8 @@ abbrev pub registersOf : Format → Control → Bool → Registers
 registersOf f c txc = record { a = ucsr0a f txc; b = ucsr0b f c; c = ucsr0c f }
 
 abbrev pub marksIn : ReceiverParts → Marks
-marksIn r = record { oldest = marksOf (r .oldest); second = marksOf (r .second); third = marksOf (r .third) }
+marksIn r =
+    record { oldest = marksOf (r .frames .oldest); second = marksOf (r .frames .second); third = marksOf (r .frames .third) }
 
 abbrev pub flagCodes : Flags → FlagCodes
 flagCodes f = record { spif = flagCode (f .spif); wcol = flagCode (f .wcol) }
@@ -54,10 +55,10 @@ imageWith d k s r m g =
     ∷ s .transmission .bit ∷ s .transmission .sample .0
     ∷ bit (r .receiving) ∷ bit (r .last) ∷ r .reception .bit ∷ r .reception .sample .0
     ∷ bit (r .reception .first) ∷ bit (r .reception .second) ∷ low (r .reception .word) ∷ high (r .reception .word)
-    ∷ r .reception .splits ∷ r .held ∷ bit (r .waits) ∷ bit (d .usart .receiver .queue .lost)
-    ∷ low (r .oldest .«data») ∷ m .oldest ∷ r .oldest .splits
-    ∷ low (r .second .«data») ∷ m .second ∷ r .second .splits
-    ∷ low (r .third .«data») ∷ m .third ∷ r .third .splits
+    ∷ r .reception .splits ∷ r .frames .held ∷ bit (r .frames .waits) ∷ bit (d .usart .receiver .queue .lost)
+    ∷ low (r .frames .oldest .«data») ∷ m .oldest ∷ r .frames .oldest .splits
+    ∷ low (r .frames .second .«data») ∷ m .second ∷ r .frames .second .splits
+    ∷ low (r .frames .third .«data») ∷ m .third ∷ r .frames .third .splits
     ∷ 0 ∷ 0 ∷ 0
     ∷ 0 ∷ 0 ∷ 0 ∷ 0 ∷ 0 ∷ 0 ∷ 0 ∷ 0
     ∷ d .spi .control .spcr ∷ bit (d .spi .control .spi2x) ∷ d .spi .control .ddrb

@@ -20,6 +20,7 @@ use Rattle.usart.specs.declared.queue.Places.{Places}
 use Rattle.usart.specs.declared.queue.Places.the-variants.{Empty, One, Two, Three}
 use Rattle.usart.specs.declared.receiver.Receiver.{Receiver}
 use Rattle.record.specs.declared.parts.SenderParts.{SenderParts}
+use Rattle.record.specs.declared.parts.FrameParts.{FrameParts}
 use Rattle.record.specs.declared.parts.ReceiverParts.{ReceiverParts}
 
 abbrev pub bufferData : Buffer → ℕ
@@ -85,15 +86,14 @@ thirdIn (Three a b c) = c
 unfoldable pub placesFrom : ℕ → Bool → Frame → Frame → Frame → Places
 placesFrom n waits a b c = pick (eqb n 0) Empty (pick (eqb n 1) (One a) (pick waits (Three a b c) (Two a b)))
 
+abbrev pub frameParts : Places → FrameParts
+frameParts p = record { held = heldCount p; waits = isWaiting p; oldest = oldestOf p; second = secondIn p; third = thirdIn p }
+
 abbrev pub receiverParts : Receiver → ReceiverParts
 receiverParts r =
     record {
       receiving = isReceiving (r .sampler);
       last = rememberedIn (r .sampler);
       reception = receptionIn (r .sampler);
-      held = heldCount (r .queue .places);
-      oldest = oldestOf (r .queue .places);
-      second = secondIn (r .queue .places);
-      waits = isWaiting (r .queue .places);
-      third = thirdIn (r .queue .places);
+      frames = frameParts (r .queue .places);
     }

@@ -72,9 +72,10 @@ fn register_images(f: Format, c: Control, txc: bool) -> Registers
 fn marks_in(r: ReceiverParts) -> Marks
     ensures { λ m. ⌜ m ≡ marksIn r ⌝ }
 {
-    let a = r.oldest;
-    let b = r.second;
-    let c = r.third;
+    let f = r.frames;
+    let a = f.oldest;
+    let b = f.second;
+    let c = f.third;
     Marks {
         oldest: marks(a),
         second: marks(b),
@@ -130,18 +131,18 @@ fn image_with(
         (r.reception.word % 256) as u8,
         (r.reception.word / 256 % 256) as u8,
         r.reception.splits,
-        r.held,
-        r.waits as u8,
+        r.frames.held,
+        r.frames.waits as u8,
         d.usart.receiver.queue.lost as u8,
-        (r.oldest.data % 256) as u8,
+        (r.frames.oldest.data % 256) as u8,
         m.oldest,
-        r.oldest.splits,
-        (r.second.data % 256) as u8,
+        r.frames.oldest.splits,
+        (r.frames.second.data % 256) as u8,
         m.second,
-        r.second.splits,
-        (r.third.data % 256) as u8,
+        r.frames.second.splits,
+        (r.frames.third.data % 256) as u8,
         m.third,
-        r.third.splits,
+        r.frames.third.splits,
         0,
         0,
         0,

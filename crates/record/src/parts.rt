@@ -9,7 +9,8 @@ use usart::Sender;
 use usart::ShiftRegister;
 use usart::Transmission;
 ghost use mathlib.Core.Path.{_≡_};
-ghost use Rattle.record.specs.Parts.{bufferData, bufferFrom, transmissionIn, shifterFrom, rememberedIn, receptionIn, samplerFrom, heldCount, secondIn, isWaiting, thirdIn, senderParts, receiverParts};
+ghost use Rattle.usart.specs.Queue.{noFrame};
+ghost use Rattle.record.specs.Parts.{bufferData, bufferFrom, transmissionIn, shifterFrom, rememberedIn, receptionIn, samplerFrom, frameParts, senderParts, receiverParts};
 
 // What the bytes hold of a sender, but TXC.
 pub struct SenderParts {
@@ -19,16 +20,21 @@ pub struct SenderParts {
     pub transmission: Transmission,
 }
 
+// What the bytes hold of the frames held, and of the one that waits.
+pub struct FrameParts {
+    pub held: u8,
+    pub waits: bool,
+    pub oldest: Frame,
+    pub second: Frame,
+    pub third: Frame,
+}
+
 // What the bytes hold of a receiver, but a frame lost.
 pub struct ReceiverParts {
     pub receiving: bool,
     pub last: bool,
     pub reception: Reception,
-    pub held: u8,
-    pub oldest: Frame,
-    pub second: Frame,
-    pub waits: bool,
-    pub third: Frame,
+    pub frames: FrameParts,
 }
 
 fn data(b: Buffer) -> u16
@@ -123,61 +129,51 @@ pub fn sampler_of(receiving: bool, last: bool, r: Reception) -> Sampler
     Sampler::Idle(last)
 }
 
-fn held(p: Places) -> u8
-    ensures { λ r. ⌜ r ≡ heldCount p ⌝ }
+fn no_frame() -> Frame
+    ensures { λ r. ⌜ r ≡ noFrame ⌝ }
 {
-    match p {
-        Places::Empty => 0,
-        Places::One(_) => 1,
-        Places::Two(_, _) => 2,
-        Places::Three(_, _, _) => 2,
-    }
-}
-
-fn second(p: Places) -> Frame
-    ensures { λ r. ⌜ r ≡ secondIn p ⌝ }
-{
-    let none = Frame {
+    Frame {
         data: 0,
         fe: false,
         upe: false,
         dor: false,
         splits: 0,
-    };
-    match p {
-        Places::Empty => none,
-        Places::One(_) => none,
-        Places::Two(_, b) => b,
-        Places::Three(_, b, _) => b,
     }
 }
 
-fn waits(p: Places) -> bool
-    ensures { λ r. ⌜ r ≡ isWaiting p ⌝ }
+fn frame_parts(p: Places) -> FrameParts
+    ensures { λ r. ⌜ r ≡ frameParts p ⌝ }
 {
+    let none = no_frame();
     match p {
-        Places::Empty => false,
-        Places::One(_) => false,
-        Places::Two(_, _) => false,
-        Places::Three(_, _, _) => true,
-    }
-}
-
-fn third(p: Places) -> Frame
-    ensures { λ r. ⌜ r ≡ thirdIn p ⌝ }
-{
-    let none = Frame {
-        data: 0,
-        fe: false,
-        upe: false,
-        dor: false,
-        splits: 0,
-    };
-    match p {
-        Places::Empty => none,
-        Places::One(_) => none,
-        Places::Two(_, _) => none,
-        Places::Three(_, _, c) => c,
+        Places::Empty => FrameParts {
+            held: 0,
+            waits: false,
+            oldest: none,
+            second: none,
+            third: none,
+        },
+        Places::One(a) => FrameParts {
+            held: 1,
+            waits: false,
+            oldest: a,
+            second: none,
+            third: none,
+        },
+        Places::Two(a, b) => FrameParts {
+            held: 2,
+            waits: false,
+            oldest: a,
+            second: b,
+            third: none,
+        },
+        Places::Three(a, b, c) => FrameParts {
+            held: 2,
+            waits: true,
+            oldest: a,
+            second: b,
+            third: c,
+        },
     }
 }
 
@@ -191,10 +187,6 @@ pub fn receiver_parts(r: Receiver) -> ReceiverParts
         receiving: s.receiving(),
         last: remembered(s),
         reception: reception(s),
-        held: held(p),
-        oldest: q.oldest(),
-        second: second(p),
-        waits: waits(p),
-        third: third(p),
+        frames: frame_parts(p),
     }
 }
