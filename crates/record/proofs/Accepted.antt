@@ -40,18 +40,14 @@ busy =
     ∷ 1 ∷ 1 ∷ 0 ∷ 1 ∷ 0 ∷ 0 ∷ 0 ∷ 2
     ∷ []
 
+-- a record with other values at some bytes, (byte, value)
+abbrev changed : List ℕ → List (ℕ × ℕ) → List ℕ
+changed s [] = s
+changed s (c ∷ cs) = changed (set s (c .0) (c .1)) cs
+
 -- .. and of one with a frame that waits, in the next one's start bit, before the last vote
 abbrev waiting : List ℕ
-waiting =
-    3 ∷ 1 ∷ 2 ∷ 1 ∷ 66 ∷ 185 ∷ 46 ∷ 0
-    ∷ 1 ∷ 165 ∷ 0 ∷ 1 ∷ 87 ∷ 1 ∷ 3 ∷ 5
-    ∷ 1 ∷ 0 ∷ 0 ∷ 5 ∷ 1 ∷ 1 ∷ 0 ∷ 0
-    ∷ 0 ∷ 2 ∷ 1 ∷ 1 ∷ 17 ∷ 9 ∷ 12 ∷ 34
-    ∷ 6 ∷ 1 ∷ 255 ∷ 15 ∷ 12 ∷ 0 ∷ 0 ∷ 0
-    ∷ 0 ∷ 0 ∷ 0 ∷ 0 ∷ 0 ∷ 0 ∷ 0 ∷ 0
-    ∷ 81 ∷ 1 ∷ 44 ∷ 163 ∷ 7 ∷ 3 ∷ 2 ∷ 2
-    ∷ 1 ∷ 1 ∷ 0 ∷ 1 ∷ 0 ∷ 0 ∷ 0 ∷ 2
-    ∷ []
+waiting = changed busy ((18, 0) ∷ (23, 0) ∷ (24, 0) ∷ (26, 1) ∷ (34, 255) ∷ (35, 15) ∷ (36, 12) ∷ [])
 
 -- .. each is accepted, and its device's image is what it was
 pub busy-accepted : (isRecord busy ≡ true) × (recordOf (deviceAt busy) ≡ busy)
@@ -91,10 +87,14 @@ beyond =
 -- the frame under way decided, with its last vote and in the next bit
 abbrev tooFar : List (List ℕ)
 tooFar =
-    map (λ (c : ℕ × ℕ). set waiting (c .0) (c .1)) ((26, 0) ∷ (26, 2) ∷ (35, 16) ∷ (36, 13) ∷ [])
-    ++ (set (set (set (set waiting 25 1) 31 0) 32 0) 33 0
-    ∷ set (set (set waiting 19 6) 20 0) 21 0
-    ∷ set waiting 18 1
+    map (changed waiting)
+    (((26, 0) ∷ [])
+    ∷ ((26, 2) ∷ [])
+    ∷ ((35, 16) ∷ [])
+    ∷ ((36, 13) ∷ [])
+    ∷ ((25, 1) ∷ (31, 0) ∷ (32, 0) ∷ (33, 0) ∷ [])
+    ∷ ((19, 6) ∷ (20, 0) ∷ (21, 0) ∷ [])
+    ∷ ((18, 1) ∷ [])
     ∷ [])
 
 abbrev isAnyAccepted : List (List ℕ) → Bool
