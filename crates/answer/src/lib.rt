@@ -1,9 +1,11 @@
 // What a rig is answered: why a call is refused, and the number for it. It knows nothing of what is refused.
+#![tactic(auto)]
+
 ghost use Rattle.std.specs.Prelude.{◌≡◌};
 ghost use Rattle.answer.specs.Number.{number_of};
 
 // Document 01's refusals, and document 02's from 9 on.
-#[derive(Drop)]
+#[derive(Clone, Copy)]
 pub enum Refusal {
     // No such register address or vector.
     Unknown,

@@ -8,7 +8,7 @@ use crate::length::lengths_within;
 use crate::setting::Setting;
 
 // The speed is told by U2X.
-#[derive(Drop)]
+#[derive(Clone, Copy)]
 pub(crate) enum Advice {
     // This speed is within the limit at more frame lengths.
     MoreLengths(bool),

@@ -6,7 +6,7 @@ ghost use Rattle.baud.specs.Decimal.{digit_read, byte_read, number_in};
 
 use decimal::is_digit;
 
-#[derive(Drop)]
+#[derive(Clone, Copy)]
 pub(crate) enum Number {
     // What decimal digits are worth, where it fits.
     Value(u32),

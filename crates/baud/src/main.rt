@@ -1,4 +1,6 @@
 // baud CLOCK RATE: the best baud setting at each speed as a table, and which speed to take.
+#![tactic(auto)]
+
 mod advice;
 mod argument;
 mod arithmetic;

@@ -4,7 +4,7 @@ ghost use Rattle.baud.specs.Setting.{divisor_of, total_of};
 use choice::digit;
 
 // A setting of the baud clock: the speed, and UBRR.
-#[derive(Drop)]
+#[derive(Clone, Copy)]
 pub(crate) struct Setting {
     pub u2x: bool,
     pub ubrr: u16,

@@ -1,4 +1,6 @@
 // What the programs on a trace share: the file that an argument names.
+#![tactic(auto)]
+
 ghost use Rattle.io.specs.Counts.{IsPrefixLen};
 
 // The longest trace that a program takes (document 02, M-100).

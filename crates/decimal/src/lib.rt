@@ -1,4 +1,6 @@
 // Decimals in a text, without leading zeros: read, and written. It knows nothing of what the numbers are for.
+#![tactic(auto)]
+
 mod digits;
 
 ghost use Rattle.std.specs.Prelude.{◌≡◌, true, ◌≤◌, drop};
@@ -7,7 +9,7 @@ ghost use Rattle.decimal.specs.Field.{field_at, rest_of, with_digit};
 
 pub use digits::{digit_count, put_number};
 
-#[derive(Drop)]
+#[derive(Clone, Copy)]
 pub enum Field {
     // The value, and the place past the byte that closes it.
     Number(u32, usize),

@@ -4,7 +4,7 @@ ghost use Rattle.device.specs.Address.{place_of};
 use crate::unit::Device;
 
 // The register that an address names.
-#[derive(Drop)]
+#[derive(Clone, Copy)]
 pub enum Place {
     Serial(usart::Register),
     Spi(spi::Register),

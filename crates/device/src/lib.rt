@@ -1,5 +1,7 @@
 // The peripheral as one device: USART0 and the SPI behind one set of register addresses, level byte, output byte,
 // vectors and request bits. It knows nothing of the record's bytes.
+#![tactic(auto)]
+
 mod address;
 mod hold;
 mod outcome;

@@ -1,13 +1,13 @@
 use crate::unit::Device;
 use answer::Refusal;
 
-#[derive(Drop)]
+#[derive(Clone, Copy)]
 pub enum Written {
     Done(Device),
     Refused(Refusal),
 }
 
-#[derive(Drop)]
+#[derive(Clone, Copy)]
 pub enum Reading {
     // The value, and the device after the read.
     Done(u8, Device),

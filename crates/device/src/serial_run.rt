@@ -20,7 +20,7 @@ fn fill(outputs: &mut [u8], from: usize, to: usize, output: u8)
 }
 
 // The serial unit after some clocks, and the place of the level byte that comes next.
-#[derive(Drop)]
+#[derive(Clone, Copy)]
 struct Passed {
     pub usart: Usart,
     pub place: usize,

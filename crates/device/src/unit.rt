@@ -8,14 +8,14 @@ use answer::Refusal;
 use spi::{Levels, Spi};
 use usart::Usart;
 
-#[derive(Drop)]
+#[derive(Clone, Copy)]
 pub struct Device {
     pub usart: Usart,
     pub spi: Spi,
 }
 
 // The device after a clock, and its output byte.
-#[derive(Drop)]
+#[derive(Clone, Copy)]
 pub struct Clocked {
     pub device: Device,
     pub output: u8,

@@ -2,7 +2,7 @@ ghost use Rattle.std.specs.Prelude.{◌≡◌, ◌≤◌, ◌^◌};
 ghost use Rattle.frame.specs.Format.{data_bits, parity_bits, stop_bits, samples, first_vote, word_bits, last_bit};
 
 // Data bits of a frame.
-#[derive(Drop)]
+#[derive(Clone, Copy)]
 pub enum Size {
     Five,
     Six,
@@ -11,7 +11,7 @@ pub enum Size {
     Nine,
 }
 
-#[derive(Drop)]
+#[derive(Clone, Copy)]
 pub enum Parity {
     Off,
     Even,
@@ -19,7 +19,7 @@ pub enum Parity {
 }
 
 // How a frame looks on the line: size, parity, USBS (two stop bits) and U2X (double speed).
-#[derive(Drop)]
+#[derive(Clone, Copy)]
 pub struct Format {
     pub size: Size,
     pub parity: Parity,

@@ -2,7 +2,7 @@ ghost use Rattle.std.specs.Prelude.{◌≡◌};
 ghost use Rattle.frame.specs.Vote.{vote_of};
 
 // The decision of three samples: the level that two or all three of them have, and whether all three have it.
-#[derive(Drop)]
+#[derive(Clone, Copy)]
 pub struct Vote {
     pub level: bool,
     pub unanimous: bool,

@@ -1,4 +1,6 @@
 // Bench traces on a device (document 02, M-100): replay. It knows nothing of the record's bytes.
+#![tactic(auto)]
+
 mod replaying;
 mod step;
 

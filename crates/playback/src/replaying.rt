@@ -10,7 +10,7 @@ use answer::Refusal;
 use device::Device;
 use trace::{Check, Line, check_text, read_line};
 
-#[derive(Drop)]
+#[derive(Clone, Copy)]
 pub enum Outcome {
     // Every item was answered as it was recorded.
     Done,
@@ -19,7 +19,7 @@ pub enum Outcome {
 }
 
 // The device after a replay, and how it ended.
-#[derive(Drop)]
+#[derive(Clone, Copy)]
 pub struct Replayed {
     pub device: Device,
     pub outcome: Outcome,

@@ -7,7 +7,7 @@ use span::Span;
 use trace::Item;
 
 // The device after an item, and whether it was answered as it was recorded.
-#[derive(Drop)]
+#[derive(Clone, Copy)]
 pub struct Step {
     pub device: Device,
     pub same: bool,

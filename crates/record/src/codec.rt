@@ -13,7 +13,7 @@ use crate::usart_lift::usart_at;
 use crate::usart_tests::{settings_fit, usart_fits};
 use device::Device;
 
-#[derive(Drop)]
+#[derive(Clone, Copy)]
 pub enum Decoded {
     Accepted(Device),
     // Not 64 bytes, a field out of its range, or a byte that is not in use and not 0.

@@ -11,7 +11,7 @@ use spi::Flags;
 use usart::Control;
 
 // UCSR0A, B and C.
-#[derive(Drop)]
+#[derive(Clone, Copy)]
 pub struct Registers {
     pub a: u8,
     pub b: u8,
@@ -19,14 +19,14 @@ pub struct Registers {
 }
 
 // The marks of the frames held, and of the one that waits.
-#[derive(Drop)]
+#[derive(Clone, Copy)]
 pub struct Marks {
     pub oldest: u8,
     pub second: u8,
     pub third: u8,
 }
 
-#[derive(Drop)]
+#[derive(Clone, Copy)]
 pub struct FlagCodes {
     pub spif: u8,
     pub wcol: u8,

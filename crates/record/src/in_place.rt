@@ -19,7 +19,7 @@ use device::Device;
 use frame::Format;
 
 // What one clock came to.
-#[derive(Drop)]
+#[derive(Clone, Copy)]
 pub enum Stepped {
     // No record.
     Refused,

@@ -1,4 +1,6 @@
 // The 64 bytes that the rig keeps: the image of a device, and back. It knows nothing of what a register does.
+#![tactic(auto)]
+
 mod codec;
 mod codes;
 mod encode;

@@ -8,7 +8,7 @@ use usart::{
 };
 
 // What the bytes hold of a sender, but TXC.
-#[derive(Drop)]
+#[derive(Clone, Copy)]
 pub struct SenderParts {
     pub full: bool,
     pub data: u16,
@@ -17,7 +17,7 @@ pub struct SenderParts {
 }
 
 // What the bytes hold of the frames held, and of the one that waits.
-#[derive(Drop)]
+#[derive(Clone, Copy)]
 pub struct FrameParts {
     pub held: u8,
     pub waits: bool,
@@ -27,7 +27,7 @@ pub struct FrameParts {
 }
 
 // What the bytes hold of a receiver, but a frame lost.
-#[derive(Drop)]
+#[derive(Clone, Copy)]
 pub struct ReceiverParts {
     pub receiving: bool,
     pub last: bool,

@@ -13,7 +13,7 @@ use crate::spi_lift::spi_at;
 use crate::usart_lift::control_at;
 use choice::digit;
 
-#[derive(Drop)]
+#[derive(Clone, Copy)]
 pub enum Reported {
     // No record.
     Refused,

@@ -1,5 +1,7 @@
 // replay FILE: replays the trace that the file holds, and prints ok, or the number of the refusal, a tab and the line.
 // A file that can't be read, or none, counts as empty; one of more than 65,536 bytes is only told to be long.
+#![tactic(auto)]
+
 use console::{MOST, read_file};
 use libc::STDOUT_FILENO;
 use playback::Outcome;

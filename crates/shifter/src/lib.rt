@@ -1,5 +1,7 @@
 // The eight-bit shift register of an SPI master or slave, and what edge k of a byte's 16 does. It knows nothing of who
 // clocks it, of pins or of registers.
+#![tactic(auto)]
+
 ghost use Rattle.std.specs.Prelude.{◌≡◌};
 ghost use Rattle.shifter.specs.Order.{out_bit, shifted_in};
 ghost use Rattle.shifter.specs.Edge.{is_sampling, is_putting, edge_of};
@@ -8,28 +10,28 @@ ghost use Rattle.shifter.specs.Exchange.{first_out, next_edge, edged_of};
 use choice::digit;
 
 // How a byte goes over the wire: CPHA, and DORD (low bit first).
-#[derive(Drop)]
+#[derive(Clone, Copy)]
 pub struct Mode {
     pub cpha: bool,
     pub dord: bool,
 }
 
 // A shift register and the last bit that it put out.
-#[derive(Drop)]
+#[derive(Clone, Copy)]
 pub struct Shifter {
     pub shift: u8,
     pub out: bool,
 }
 
 // A byte in exchange for another: the register, and the edges that have passed, 0 to 15.
-#[derive(Drop)]
+#[derive(Clone, Copy)]
 pub struct Exchange {
     pub register: Shifter,
     pub edges: u8,
 }
 
 // What an edge leads to.
-#[derive(Drop)]
+#[derive(Clone, Copy)]
 pub enum Edged {
     // Edges 1 to 15.
     Onward(Exchange),

@@ -1,6 +1,8 @@
 // shrink FILE: prints the shortest trace with the same clocks and calls as the one in the file, or the number of the
 // refusal. A file that can't be read, or none, counts as empty; one of more than 65,536 bytes is only told to be long.
 // No trace comes out longer than it went in, so there is always room.
+#![tactic(auto)]
+
 ghost use Rattle.std.specs.Prelude.{◌≤◌, length};
 
 use console::{MOST, read_file};

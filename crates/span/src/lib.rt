@@ -1,3 +1,5 @@
 // Clocks in a row, as a count that can't be taken for one of ticks, samples or bytes.
-#[derive(Drop)]
+#![tactic(auto)]
+
+#[derive(Clone, Copy)]
 pub struct Span(pub usize);

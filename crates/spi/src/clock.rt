@@ -8,7 +8,7 @@ use crate::unit::{Pins, Spi, differs};
 use shifter::{Edged, Shifter, next_edge};
 
 // The levels of the pins at a clock.
-#[derive(Drop)]
+#[derive(Clone, Copy)]
 pub struct Levels {
     pub miso: bool,
     pub mosi: bool,

@@ -4,7 +4,7 @@ ghost use Rattle.spi.specs.Control.{is_enabled, is_master, cpol_of, mode_of, div
 use shifter::Mode;
 
 // SPCR, SPI2X of SPSR, and DDRB.
-#[derive(Drop)]
+#[derive(Clone, Copy)]
 pub struct Control {
     pub spcr: u8,
     pub spi2x: bool,

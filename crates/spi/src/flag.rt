@@ -2,14 +2,14 @@ ghost use Rattle.std.specs.Prelude.{◌≡◌};
 ghost use Rattle.spi.specs.Flag.{is_up, raised_of, armed_of, cleared_of, raised_flags, armed_flags, cleared_flags, collided_flags};
 
 // A flag that a read of SPSR arms, and the SPDR access after it clears.
-#[derive(Drop)]
+#[derive(Clone, Copy)]
 pub enum Flag {
     Clear,
     Set,
     Armed,
 }
 
-#[derive(Drop)]
+#[derive(Clone, Copy)]
 pub struct Flags {
     pub spif: Flag,
     pub wcol: Flag,

@@ -8,7 +8,7 @@ use crate::unit::{Spi, differs};
 use span::Span;
 
 // The unit after some clocks, and how many they were.
-#[derive(Drop)]
+#[derive(Clone, Copy)]
 pub struct Passed {
     pub spi: Spi,
     pub clocks: Span,

@@ -1,5 +1,7 @@
 // The SPI as master and slave: clock divisor, transfers, registers SPCR, SPSR, SPDR and DDRB. It knows nothing of the
 // USART or of the record's bytes; what an edge does to the shift register is `shifter`'s.
+#![tactic(auto)]
+
 mod clock;
 mod control;
 mod divisor;

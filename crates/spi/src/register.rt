@@ -11,7 +11,7 @@ use crate::unit::{Pins, Spi, differs};
 use answer::Refusal;
 use choice::digit;
 
-#[derive(Drop)]
+#[derive(Clone, Copy)]
 pub enum Register {
     Spcr,
     Spsr,
@@ -19,14 +19,14 @@ pub enum Register {
     Ddrb,
 }
 
-#[derive(Drop)]
+#[derive(Clone, Copy)]
 pub enum Written {
     Done(Spi),
     Refused(Refusal),
 }
 
 // What a read answers, and the unit after it.
-#[derive(Drop)]
+#[derive(Clone, Copy)]
 pub struct Reading {
     pub value: u8,
     pub spi: Spi,

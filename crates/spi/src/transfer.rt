@@ -6,7 +6,7 @@ use shifter::{Exchange, Shifter};
 
 // The shift register, the receive buffer, edges of the byte under way that have passed, and a master's clocks to the
 // next one.
-#[derive(Drop)]
+#[derive(Clone, Copy)]
 pub struct Transfer {
     pub shift: u8,
     pub received: u8,

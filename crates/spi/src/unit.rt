@@ -9,14 +9,14 @@ use crate::transfer::Transfer;
 use choice::digit;
 
 // The last bits put out on MOSI and MISO, and the level of SCK at the last clock.
-#[derive(Drop)]
+#[derive(Clone, Copy)]
 pub struct Pins {
     pub mosi: bool,
     pub miso: bool,
     pub sck: bool,
 }
 
-#[derive(Drop)]
+#[derive(Clone, Copy)]
 pub struct Spi {
     pub control: Control,
     pub transfer: Transfer,

@@ -1,7 +1,7 @@
 // What a call that writes into a lent buffer answers.
 use answer::Refusal;
 
-#[derive(Drop)]
+#[derive(Clone, Copy)]
 pub enum Filled {
     // A text of so many bytes stands at the buffer's start.
     Text(usize),

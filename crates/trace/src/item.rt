@@ -1,5 +1,5 @@
 // A call with the answer that was recorded, or clocks with one level byte.
-#[derive(Drop)]
+#[derive(Clone, Copy)]
 pub enum Item {
     // Address, value, answer.
     Write(u8, u8, u8),

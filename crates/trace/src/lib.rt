@@ -1,5 +1,7 @@
 // The text of a bench trace (document 02, M-100 and M-109): items, a line for each, read a line at a time; written from
 // a list of items; shrunk. It knows no device.
+#![tactic(auto)]
+
 mod filled;
 mod item;
 mod line;

@@ -5,21 +5,21 @@ ghost use Rattle.trace.specs.Line.{pair_at, triple_at, item_at, line_at, write_b
 use crate::item::Item;
 use decimal::{Field, field_at};
 
-#[derive(Drop)]
+#[derive(Clone, Copy)]
 pub enum Pair {
     // Both numbers, and the place past them.
     Numbers(u32, u32, usize),
     Malformed,
 }
 
-#[derive(Drop)]
+#[derive(Clone, Copy)]
 pub enum Triple {
     // The three numbers, and the place past them.
     Numbers(u8, u8, u8, usize),
     Malformed,
 }
 
-#[derive(Drop)]
+#[derive(Clone, Copy)]
 pub enum Line {
     // What the line holds, and the place of the next.
     Found(Item, usize),

@@ -4,7 +4,7 @@ ghost use Rattle.trace.specs.Listing.{clocks_from, call_from, entry_from, entry_
 
 use crate::item::Item;
 
-#[derive(Drop)]
+#[derive(Clone, Copy)]
 pub enum Entry {
     Held(Item),
     // No item, or one outside the ranges.

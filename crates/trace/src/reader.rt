@@ -6,7 +6,7 @@ ghost use Rattle.trace.specs.Line.{line_at};
 
 use crate::line::{Line, line_at};
 
-#[derive(Drop)]
+#[derive(Clone, Copy)]
 pub struct Reader<'a> {
     pub text: &'a [u8],
     pub at: usize,

@@ -6,7 +6,7 @@ ghost use Rattle.trace.specs.Contents.{starts_with, contents_of};
 use crate::line::Line;
 use crate::reader::read_line;
 
-#[derive(Drop)]
+#[derive(Clone, Copy)]
 pub enum Check {
     WellFormed,
     // The first malformed line, from 1.

@@ -12,7 +12,7 @@ use crate::putting::{line_length, put_line};
 const MOST: u32 = 4294967295;
 
 // The clocks that go out before an item, and the run that is held back after it.
-#[derive(Drop)]
+#[derive(Clone, Copy)]
 pub struct Turn {
     pub out: u32,
     pub levels: u8,

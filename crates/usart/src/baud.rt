@@ -2,11 +2,11 @@ ghost use Rattle.std.specs.Prelude.{◌≡◌};
 ghost use Rattle.usart.specs.Baud.{left_of, ticks, baud_of, loaded_baud};
 
 // Clocks left in the baud counter until the next tick.
-#[derive(Drop)]
+#[derive(Clone, Copy)]
 pub struct Clocks(pub u16);
 
 // UBRR and the counter that it loads.
-#[derive(Drop)]
+#[derive(Clone, Copy)]
 pub struct Baud {
     pub ubrr: u16,
     pub left: Clocks,

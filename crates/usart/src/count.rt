@@ -20,7 +20,7 @@ use span::Span;
 const UNLIMITED: Ticks = Ticks(65535);
 
 // The unit after clocks that only count, and how many they were.
-#[derive(Drop)]
+#[derive(Clone, Copy)]
 pub struct Skipped {
     pub usart: Usart,
     pub clocks: Span,

@@ -15,13 +15,13 @@ use frame::Format;
 use span::Span;
 
 // A part after some ticks, and how many they were.
-#[derive(Drop)]
+#[derive(Clone, Copy)]
 pub struct SenderPassed {
     pub sender: Sender,
     pub ticks: Ticks,
 }
 
-#[derive(Drop)]
+#[derive(Clone, Copy)]
 pub struct ReceiverPassed {
     pub receiver: Receiver,
     pub ticks: Ticks,

@@ -1,5 +1,7 @@
 // USART0 in asynchronous mode: baud clock, sender, sampler, receive queue and serial registers, and the line with its
 // recommended rate limits. It knows nothing of the SPI or of the record's bytes.
+#![tactic(auto)]
+
 mod baud;
 mod count;
 mod hold;

@@ -2,7 +2,7 @@ ghost use Rattle.std.specs.Prelude.{◌≡◌};
 ghost use Rattle.usart.specs.Queue.{marked_of, holding, stored_of, started_of, without_oldest, oldest_of, is_empty};
 
 // A received frame, with how many of its votes were split.
-#[derive(Drop)]
+#[derive(Clone, Copy)]
 pub struct Frame {
     pub data: u16,
     pub fe: bool,
@@ -12,7 +12,7 @@ pub struct Frame {
 }
 
 // Frames received and not yet read, oldest first. Two are held; a third one waits in the shift register.
-#[derive(Drop)]
+#[derive(Clone, Copy)]
 pub enum Places {
     Empty,
     One(Frame),
@@ -20,7 +20,7 @@ pub enum Places {
     Three(Frame, Frame, Frame),
 }
 
-#[derive(Drop)]
+#[derive(Clone, Copy)]
 pub struct Queue {
     pub places: Places,
     // A frame was lost; the next one that completes carries DOR.

@@ -9,7 +9,7 @@ use crate::write::Register;
 use choice::digit;
 
 // What a read answers, and the unit after it.
-#[derive(Drop)]
+#[derive(Clone, Copy)]
 pub struct Reading {
     pub value: u8,
     pub usart: Usart,

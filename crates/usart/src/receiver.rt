@@ -5,7 +5,7 @@ use crate::queue::{Frame, Places, Queue};
 use crate::sampler::{Outcome, Sampler};
 use frame::Format;
 
-#[derive(Drop)]
+#[derive(Clone, Copy)]
 pub struct Receiver {
     pub sampler: Sampler,
     pub queue: Queue,

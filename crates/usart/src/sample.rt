@@ -1,3 +1,3 @@
 // Samples, or ticks, that have passed within a bit.
-#[derive(Drop)]
+#[derive(Clone, Copy)]
 pub struct Sample(pub u8);

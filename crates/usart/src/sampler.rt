@@ -10,7 +10,7 @@ const MOST_VOTES: u8 = 12;
 
 // A frame under way: the bit that is being sampled (0 is the start bit), samples of it taken, its first two votes until
 // the third decides it, the bits received so far, shifted in at the top, and the votes so far that were split.
-#[derive(Drop)]
+#[derive(Clone, Copy)]
 pub struct Reception {
     pub bit: u8,
     pub sample: Sample,
@@ -20,7 +20,7 @@ pub struct Reception {
     pub splits: u8,
 }
 
-#[derive(Drop)]
+#[derive(Clone, Copy)]
 pub enum Sampler {
     // No frame under way; the last sample is remembered.
     Idle(bool),
@@ -29,7 +29,7 @@ pub enum Sampler {
 }
 
 // What a sample leads to.
-#[derive(Drop)]
+#[derive(Clone, Copy)]
 pub enum Outcome {
     Nothing,
     // A start bit is accepted.
@@ -38,7 +38,7 @@ pub enum Outcome {
     Complete(u16, bool, u8),
 }
 
-#[derive(Drop)]
+#[derive(Clone, Copy)]
 pub struct Sampled {
     pub sampler: Sampler,
     pub outcome: Outcome,

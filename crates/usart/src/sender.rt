@@ -6,7 +6,7 @@ use crate::sample::Sample;
 use frame::Format;
 
 // The transmit buffer.
-#[derive(Drop)]
+#[derive(Clone, Copy)]
 pub enum Buffer {
     // UDRE is set.
     Vacant,
@@ -16,20 +16,20 @@ pub enum Buffer {
 
 // A frame in the shifter: its word, the bit that is on the line (0 is the start bit) and the ticks of it that have
 // passed.
-#[derive(Drop)]
+#[derive(Clone, Copy)]
 pub struct Transmission {
     pub word: u16,
     pub bit: u8,
     pub sample: Sample,
 }
 
-#[derive(Drop)]
+#[derive(Clone, Copy)]
 pub enum ShiftRegister {
     Resting,
     Sending(Transmission),
 }
 
-#[derive(Drop)]
+#[derive(Clone, Copy)]
 pub struct Sender {
     pub buffer: Buffer,
     pub shifter: ShiftRegister,

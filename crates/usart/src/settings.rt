@@ -5,7 +5,7 @@ use choice::digit;
 use frame::{Format, Parity, Size};
 
 // What a size code UCSZ2:0 stands for.
-#[derive(Drop)]
+#[derive(Clone, Copy)]
 pub enum Coded {
     Known(Size),
     Reserved,

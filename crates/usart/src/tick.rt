@@ -6,7 +6,7 @@ use crate::baud::Baud;
 use span::Span;
 
 // Ticks in a row, as a count that can't be taken for one of clocks; of the receiver a sample each.
-#[derive(Drop)]
+#[derive(Clone, Copy)]
 pub struct Ticks(pub usize);
 
 impl Ticks {

@@ -9,7 +9,7 @@ use choice::digit;
 use frame::{Format, Parity, Size};
 
 // UCSR0B, but for the bits that are kept elsewhere: UCSZ2 in the format, RXB8 with the oldest frame.
-#[derive(Drop)]
+#[derive(Clone, Copy)]
 pub struct Control {
     pub rxcie: bool,
     pub txcie: bool,
@@ -19,7 +19,7 @@ pub struct Control {
     pub txb8: bool,
 }
 
-#[derive(Drop)]
+#[derive(Clone, Copy)]
 pub struct Usart {
     pub baud: Baud,
     pub format: Format,

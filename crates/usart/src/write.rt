@@ -11,7 +11,7 @@ use answer::Refusal;
 use choice::digit;
 use frame::{Format, Size};
 
-#[derive(Drop)]
+#[derive(Clone, Copy)]
 pub enum Register {
     Ucsr0a,
     Ucsr0b,
@@ -21,7 +21,7 @@ pub enum Register {
     Udr0,
 }
 
-#[derive(Drop)]
+#[derive(Clone, Copy)]
 pub enum Written {
     Done(Usart),
     Refused(Refusal),
