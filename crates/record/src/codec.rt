@@ -25,7 +25,7 @@ fn put(b: [u8; layout::LENGTH], s: &mut [u8])
     requires { length s.old ≡ record_length }
     ensures { s.new ≡ b }
 {
-    bytes::copy(&b, s);
+    s.copy_from_slice(&b);
 }
 
 fn fits(s: &[u8]) -> bool

@@ -75,14 +75,14 @@ module _ (m : Mode) (r : Shifter) (k : ℕ) (a b : Bool) where
       split m.cpha
       (λ c. record {
         shift = rw (c, odd0, odd1, even0);
-        shown = λ is. rw (c, odd0, odd1, even0);
-        sampled = λ is. rw (c, odd0, even0);
+        shown = λ is. rw (c, odd0, odd1, even0, ← c);
+        sampled = λ is. rw (c, odd0, even0, ← c);
         presented = λ _ q. clash c q;
       })
       (λ c. record {
         shift = shift_kept m (edge_of m r (k + 1) a) (k + 1 + 1) b (rw (c, even1)) ∙ rw (c, odd1);
-        shown = λ is. rw (c, odd1, even1, p c);
-        sampled = λ is. rw (c, odd1, even1);
+        shown = λ is. rw (c, odd1, even1, p c, ← c);
+        sampled = λ is. rw (c, odd1, even1, ← c);
         presented = λ l q. edge-puts m (edge_of m r (k + 1) a) (k + 1 + 1) b (rw (c, even1)) l;
       })
 
