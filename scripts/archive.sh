@@ -5,18 +5,18 @@
 set -eu
 cd "$(dirname "$0")/.."
 archive=target/staticlib/libwarpmagpie.a
-if [ -e "$archive" ] && [ -z "$(find crates crates.txt -newer "$archive" -print -quit)" ]; then exit 0; fi
+sources() { find crates crates.txt -name out -prune -o "$@"; }
+if [ -e "$archive" ] && [ -z "$(sources -newer "$archive" -type f -print -quit)" ]; then exit 0; fi
 echo "archive: proving and building, which takes some minutes the first time" >&2
-mkdir -p target
+mkdir -p target/staticlib
 rm -f "$archive"
-for crate in warpmagpie holding tracing recording; do
-    rt staticlib $crate >target/staticlib.log 2>&1 || { cat target/staticlib.log; exit 1; }
-done
 made=$(mktemp -d)
 trap 'rm -rf "$made"' EXIT
-mv "$archive" "$made/whole.a"
-for crate in holding tracing recording; do
-    (cd "$made" && ar x "$OLDPWD/target/staticlib/lib$crate.a" && ar r whole.a "$crate.o") >target/staticlib.log 2>&1 ||
-        { cat target/staticlib.log; exit 1; }
+# NAME_c exports the calls of the crate NAME, and its archive has one member, NAME_c.o.
+for crate in warpmagpie holding tracing recording; do
+    rt lib ${crate}_c >target/staticlib.log 2>&1 || { cat target/staticlib.log; exit 1; }
+    (cd "$made" && ar x "$OLDPWD/crates/${crate}_c/out/lib${crate}_c.a" ${crate}_c.o && mv ${crate}_c.o $crate.o) \
+        >target/staticlib.log 2>&1 || { cat target/staticlib.log; exit 1; }
 done
+(cd "$made" && ar rc whole.a warpmagpie.o holding.o tracing.o recording.o)
 mv "$made/whole.a" "$archive"

@@ -5,11 +5,14 @@ set -eu
 cd "$(dirname "$0")/.."
 name=$1
 program=target/bin/$name
-if [ -e "$program" ] && [ -z "$(find crates crates.txt -newer "$program" -print -quit)" ]; then exit 0; fi
+sources() { find crates crates.txt -name out -prune -o "$@"; }
+if [ -e "$program" ] && [ -z "$(sources -newer "$program" -type f -print -quit)" ]; then exit 0; fi
 echo "$name: proving and building, which takes some minutes the first time" >&2
-mkdir -p target
-# rt builds nothing of a crate that is as it was when last proved: a program that is gone needs a new proof, and one
-# that is there is as new as the sources.
-[ -e "$program" ] || rm -f "target/stamp/$name"
-rt check "$name" >"target/$name.log" 2>&1 || { cat "target/$name.log"; exit 1; }
-touch "$program"
+mkdir -p target/bin
+# rt builds a program by running it: what it prints without an argument is not looked at, and what counts is that it was
+# built, which a crate that is not proved never is.
+built=crates/$name/out/$name
+rm -f "$built"
+rt run "$name" >"target/$name.log" 2>&1 </dev/null || true
+[ -x "$built" ] || { cat "target/$name.log"; exit 1; }
+cp "$built" "$program"

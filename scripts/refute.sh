@@ -10,7 +10,10 @@
 set -u -o pipefail
 cd "$(dirname "$0")/.."
 top=$PWD
-work=$top/target/refute
+logs=$top/target/refute
+# Outside the checkout, in which rt ci takes no second copy of a source.
+work=$(mktemp -d)
+trap 'rm -rf "$work"' EXIT
 
 field() { sed -n "s/^$1: //p" "$2" | tr '\n' ' '; } # NAME FILE: the text before 'proof:' has each field's lines
 
@@ -61,16 +64,17 @@ others() { # FILE
     done
 }
 
-# Puts a crate back as it is in the repository, with what the last run there proved of it.
+# Puts a crate back as it is in the repository.
 restore() { # CRATE
-    local p
-    rm -rf "$work/crates/$1" "$work/target/rlib/$1.rlib" "$work/target/stamp/$1"
-    cp -R "$top/crates/$1" "$work/crates/$1"
-    for p in rlib/$1.rlib stamp/$1; do [ ! -e "$top/target/$p" ] || cp -R "$top/target/$p" "$work/target/$p"; done
+    local d
+    for d in src specs proofs; do
+        rm -rf "$work/crates/$1/$d"
+        [ ! -e "$top/crates/$1/$d" ] || cp -R "$top/crates/$1/$d" "$work/crates/$1/$d"
+    done
 }
 
 refute() { # NAME EDIT, in a shell of its own
-    local file=$top/refutations/$1.refutation crate log=$work/$1-$2.log began=$SECONDS
+    local file=$top/refutations/$1.refutation crate log=$logs/$1-$2.log began=$SECONDS
     crate=$(field crate "$file") crate=${crate% }
     trap "restore '$crate'" EXIT
     restore "$crate"
@@ -80,7 +84,7 @@ refute() { # NAME EDIT, in a shell of its own
     sed '1,/^proof:$/d' "$file" >proofs/Refutation.antt
     echo 'pub mod Refutation' >>proofs/Lib.antt
     cd "$work" || return 1
-    if rt check "$crate" >"$log" 2>&1 && grep -q '^rt: ok' "$log"; then
+    if rt check "$crate" >"$log" 2>&1 && grep -q '^logic=proved ' "$log"; then
         echo "refuted: $crate/$2 ($((SECONDS - began)) s)"
     else
         echo "refute: $crate/$2 is NOT refuted; see target/refute/${log##*/}:"
@@ -89,14 +93,11 @@ refute() { # NAME EDIT, in a shell of its own
     fi
 }
 
-# The crates that no edit touches are taken from the repository's own last run where they are as they were then, and
-# else proved once.
-mkdir -p "$work/target"
-rm -rf "$work/crates"
-cp -R crates crates.txt "$work/"
-rm -rf "$work"/crates/*/must-fail
-for d in rlib stamp; do
-    [ ! -d target/$d ] || { rm -rf "$work/target/$d" && cp -R target/$d "$work/target/"; }
+mkdir -p "$logs" "$work/crates"
+cp crates.txt "$work/"
+for folder in crates/*/; do
+    mkdir "$work/$folder"
+    (cd "$folder" && for f in *; do case $f in out | must-fail) ;; *) cp -R "$f" "$work/$folder" ;; esac; done)
 done
 
 [ $# -gt 0 ] || set -- $(cd refutations && ls ./*.refutation | sed 's|^\./||; s|\.refutation$||')

@@ -19,8 +19,7 @@ fn held(d: Device, level: u8, n: Span) -> Reading
     Reading::Refused(Refusal::Level)
 }
 
-#[unsafe(no_mangle)]
-pub extern "C" fn warpmagpie_hold(image: &mut [u8], level: u8, clocks: u32, output: &mut u8) -> u8
+pub fn warpmagpie_hold(image: &mut [u8], level: u8, clocks: u32, output: &mut u8) -> u8
     ensures value { result ≡ hold_answer image.old level clocks }
     ensures output_after { output.new ≡ hold_output image.old level clocks }
     ensures image_after { image.new ≡ record_after_hold image.old level clocks }

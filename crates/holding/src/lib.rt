@@ -3,3 +3,5 @@
 #![tactic(auto)]
 
 mod hold;
+
+pub use hold::warpmagpie_hold;

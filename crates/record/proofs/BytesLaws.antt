@@ -54,6 +54,8 @@ pub data Same : List ℕ → List ℕ → Type 0 where
 
 pub same_lists : (xs ys : List ℕ) → Same xs ys → xs ≡ ys
 same_lists [] [] done = refl
+same_lists [] (y ∷ ys) s = elim s [ ]
+same_lists (x ∷ xs) [] s = elim s [ ]
 same_lists (x ∷ xs) (y ∷ ys) (e ▹ s) = ap₂ (◌∷◌) e (same_lists xs ys s)
 
 -- the kinds of byte: each is shown again as it was

@@ -61,6 +61,8 @@ data Within : List ℕ → List ℕ → Type 0 where
 is_within_lem : (xs ms : List ℕ) → Within xs ms → is_within xs ms ≡ true
 unfolding is_within
 is_within_lem [] [] done = refl
+is_within_lem [] (m ∷ ms) w = elim w [ ]
+is_within_lem (x ∷ xs) [] w = elim w [ ]
 is_within_lem (x ∷ xs) (m ∷ ms) (p ▹ w) = rw (le-leb x m p) (is_within_lem xs ms w)
 
 none : 0 ≤ 0

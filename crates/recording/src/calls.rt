@@ -5,8 +5,7 @@ ghost use Rattle.recording.specs.Calls.{trace_write_answer, trace_write_length, 
 
 use crate::reply::answered;
 
-#[unsafe(no_mangle)]
-pub extern "C" fn warpmagpie_trace_write(items: &[u8], text: &mut [u8], size: &mut usize) -> u8
+pub fn warpmagpie_trace_write(items: &[u8], text: &mut [u8], size: &mut usize) -> u8
     ensures value { result ≡ trace_write_answer items.now text.old }
     ensures size_after { size.new ≡ trace_write_length items.now text.old }
     ensures text_after { text.new ≡ buffer_written items.now text.old }
@@ -14,8 +13,7 @@ pub extern "C" fn warpmagpie_trace_write(items: &[u8], text: &mut [u8], size: &m
     answered(trace::write(items, text), size)
 }
 
-#[unsafe(no_mangle)]
-pub extern "C" fn warpmagpie_trace_shrink(text: &[u8], shrunk: &mut [u8], size: &mut usize) -> u8
+pub fn warpmagpie_trace_shrink(text: &[u8], shrunk: &mut [u8], size: &mut usize) -> u8
     ensures value { result ≡ trace_shrink_answer text.now shrunk.old }
     ensures size_after { size.new ≡ trace_shrink_length text.now shrunk.old }
     ensures shrunk_after { shrunk.new ≡ buffer_shrunk text.now shrunk.old }

@@ -5,3 +5,5 @@
 
 mod calls;
 mod reply;
+
+pub use calls::{warpmagpie_trace_shrink, warpmagpie_trace_write};

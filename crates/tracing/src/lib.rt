@@ -4,3 +4,5 @@
 #![tactic(auto)]
 
 mod replay;
+
+pub use replay::warpmagpie_replay;

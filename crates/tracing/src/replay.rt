@@ -5,8 +5,7 @@ ghost use Rattle.tracing.specs.Replay.{replay_answer, replay_line, record_after_
 use answer::Refusal;
 use playback::Outcome;
 
-#[unsafe(no_mangle)]
-pub extern "C" fn warpmagpie_replay(image: &mut [u8], text: &[u8], line: &mut usize) -> u8
+pub fn warpmagpie_replay(image: &mut [u8], text: &[u8], line: &mut usize) -> u8
     ensures value { result ≡ replay_answer image.old text.now }
     ensures line_after { line.new ≡ replay_line image.old text.now }
     ensures image_after { image.new ≡ record_after_replay image.old text.now }

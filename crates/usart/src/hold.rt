@@ -49,6 +49,7 @@ impl Baud {
 }
 
 impl Sender {
+    #[tactic(auto, unfolding(crate::specs::Holding::sender_rests))]
     fn rests(self) -> bool
         ensures { result ≡ sender_rests self }
     {
@@ -108,6 +109,7 @@ impl Sampler {
 }
 
 impl Receiver {
+    #[tactic(auto, unfolding(crate::specs::Holding::receiver_rests))]
     fn rests(self, rxen: bool, rxd: bool) -> bool
         ensures { result ≡ receiver_rests rxen self rxd }
     {

@@ -63,12 +63,14 @@ impl Receiver {
     }
 
     // A tick of the baud clock; only an enabled receiver samples.
+    #[tactic(auto, unfolding(crate::specs::Receiver::listened_of))]
     pub fn listened(self, rxen: bool, f: Format, rxd: bool) -> Receiver
         ensures { result ≡ listened_of rxen f self rxd }
     {
         if rxen { self.tick(f, rxd) } else { self }
     }
 
+    #[tactic(auto, unfolding(crate::specs::Receiver::enabled_of))]
     pub fn enabled(self, before: bool, after: bool) -> Receiver
         ensures { result ≡ enabled_of before after self }
     {

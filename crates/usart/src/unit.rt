@@ -64,6 +64,7 @@ impl Usart {
     }
 
     // A frame in shift or buffer, or one that is being received.
+    #[tactic(auto, unfolding(crate::specs::Unit::is_busy))]
     pub fn busy(self) -> bool
         ensures { result ≡ is_busy self }
     {
@@ -94,6 +95,7 @@ impl Usart {
     }
 
     // One clock, with the level of RxD.
+    #[tactic(auto, unfolding(crate::specs::Unit::clock_of))]
     pub fn clock(mut self, rxd: bool) -> Usart
         ensures { result ≡ clock_of self rxd }
     {
@@ -105,6 +107,7 @@ impl Usart {
         self
     }
 
+    #[tactic(auto, unfolding(crate::specs::Unit::is_driven))]
     fn driven(self) -> bool
         ensures { result ≡ is_driven self }
     {
@@ -118,6 +121,7 @@ impl Usart {
     }
 
     // TxD in bit 0 and its driven mark in bit 4; undriven shows 0.
+    #[tactic(auto, unfolding(crate::specs::Unit::output_of))]
     pub fn output(self) -> u8
         ensures { result ≡ output_of self }
     {

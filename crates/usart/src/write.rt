@@ -50,6 +50,7 @@ impl Usart {
     }
 
     // The format f, unless it changes while busy, which is judged on the state before the write.
+    #[tactic(auto, unfolding(crate::specs::Write::formatted_of))]
     fn formatted(self, busy: bool, f: Format) -> Written
         ensures { result ≡ formatted_of self busy f }
     {
@@ -64,6 +65,7 @@ impl Usart {
     }
 
     // Bit 6 of a write to UCSR0A clears TXC.
+    #[tactic(auto, unfolding(crate::specs::Write::txc_cleared))]
     fn cleared(self, v: u8) -> Usart
         ensures { result ≡ txc_cleared self v }
     {
@@ -73,6 +75,7 @@ impl Usart {
         self
     }
 
+    #[tactic(auto, unfolding(crate::specs::Write::write_a))]
     fn write_ucsr0a(self, v: u8) -> Written
         ensures { result ≡ write_a self v }
     {
@@ -142,6 +145,7 @@ impl Usart {
         }
     }
 
+    #[tactic(auto, unfolding(crate::specs::Write::sized_c))]
     fn sized_c(self, z: Size, v: u8) -> Written
         ensures { result ≡ sized_c self z v }
     {
@@ -158,6 +162,7 @@ impl Usart {
         Written::Refused(Refusal::Unmodelled)
     }
 
+    #[tactic(auto, unfolding(crate::specs::Write::write_c))]
     fn write_ucsr0c(self, v: u8) -> Written
         ensures { result ≡ write_c self v }
     {
@@ -174,6 +179,7 @@ impl Usart {
     }
 
     // A new baud setting, unless busy.
+    #[tactic(auto, unfolding(crate::specs::Write::timed_of))]
     fn timed(self, b: Baud) -> Written
         ensures { result ≡ timed_of self b }
     {
@@ -190,6 +196,7 @@ impl Usart {
         self.timed(Baud::loaded(u))
     }
 
+    #[tactic(auto, unfolding(crate::specs::Write::write_h))]
     fn write_ubrr0h(self, v: u8) -> Written
         ensures { result ≡ write_h self v }
     {
@@ -202,6 +209,7 @@ impl Usart {
     }
 
     // Data for the transmit buffer, taken with TXEN and UDRE set.
+    #[tactic(auto, unfolding(crate::specs::Write::transmitted_of))]
     fn transmitted(self, v: u8) -> Usart
         ensures { result ≡ transmitted_of self v }
     {
@@ -227,6 +235,7 @@ impl Usart {
     }
 
     // Vector 0 clears TXC.
+    #[tactic(auto, unfolding(crate::specs::Write::vector_of))]
     pub fn take_vector(self) -> Written
         ensures { result ≡ vector_of self }
     {
@@ -238,6 +247,7 @@ impl Usart {
 }
 
 // UMSEL 10, UPM 01 or UCPOL 1.
+#[tactic(auto, unfolding(crate::specs::Write::is_reserved_c))]
 fn reserved_c(v: u8) -> bool
     ensures { result ≡ is_reserved_c v }
 {

@@ -4,8 +4,7 @@ ghost use Rattle.warpmagpie.specs.Baud.{plan_answer, plan_ubrr, plan_tenths, che
 
 use planner::{Checked, Planned};
 
-#[unsafe(no_mangle)]
-pub extern "C" fn warpmagpie_plan_baud(
+pub fn warpmagpie_plan_baud(
     clock: u32,
     rate: u32,
     u2x: u8,
@@ -31,8 +30,7 @@ pub extern "C" fn warpmagpie_plan_baud(
     }
 }
 
-#[unsafe(no_mangle)]
-pub extern "C" fn warpmagpie_check_baud(
+pub fn warpmagpie_check_baud(
     clock: u32,
     rate: u32,
     u2x: u8,

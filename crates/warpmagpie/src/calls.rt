@@ -17,8 +17,7 @@ fn no_record() -> u8
 }
 
 // Resets the device: whatever bytes the record had, it is then the record of a device after reset.
-#[unsafe(no_mangle)]
-pub extern "C" fn warpmagpie_reset(image: &mut [u8]) -> u8
+pub fn warpmagpie_reset(image: &mut [u8]) -> u8
     ensures value { result ≡ reset_answer image.old }
     ensures image_after { image.new ≡ record_after_reset image.old }
 {
@@ -29,8 +28,7 @@ pub extern "C" fn warpmagpie_reset(image: &mut [u8]) -> u8
     0
 }
 
-#[unsafe(no_mangle)]
-pub extern "C" fn warpmagpie_write(image: &mut [u8], address: u16, value: u8) -> u8
+pub fn warpmagpie_write(image: &mut [u8], address: u16, value: u8) -> u8
     ensures value { result ≡ write_answer image.old address value }
     ensures image_after { image.new ≡ record_after_write image.old address value }
 {
@@ -41,8 +39,7 @@ pub extern "C" fn warpmagpie_write(image: &mut [u8], address: u16, value: u8) ->
     }
 }
 
-#[unsafe(no_mangle)]
-pub extern "C" fn warpmagpie_read(image: &mut [u8], address: u16, value: &mut u8) -> u8
+pub fn warpmagpie_read(image: &mut [u8], address: u16, value: &mut u8) -> u8
     ensures value { result ≡ read_answer image.old address }
     ensures value_after { value.new ≡ read_value image.old address }
     ensures image_after { image.new ≡ record_after_read image.old address }
@@ -57,8 +54,7 @@ pub extern "C" fn warpmagpie_read(image: &mut [u8], address: u16, value: &mut u8
     }
 }
 
-#[unsafe(no_mangle)]
-pub extern "C" fn warpmagpie_take_vector(image: &mut [u8], vector: u8) -> u8
+pub fn warpmagpie_take_vector(image: &mut [u8], vector: u8) -> u8
     ensures value { result ≡ vector_answer image.old vector }
     ensures image_after { image.new ≡ record_after_vector image.old vector }
 {
@@ -107,8 +103,7 @@ fn one_clock(image: &mut [u8], level: u8, outputs: &mut [u8]) -> u8
     }
 }
 
-#[unsafe(no_mangle)]
-pub extern "C" fn warpmagpie_run(image: &mut [u8], levels: &[u8], outputs: &mut [u8]) -> u8
+pub fn warpmagpie_run(image: &mut [u8], levels: &[u8], outputs: &mut [u8]) -> u8
     ensures value { result ≡ run_answer image.old levels.now outputs.old }
     ensures image_after { image.new ≡ record_after_run image.old levels.now outputs.old }
     ensures outputs_after { outputs.new ≡ outputs_after_run image.old levels.now outputs.old }
@@ -140,16 +135,14 @@ fn tell(got: Reported, told: &mut u8) -> u8
     }
 }
 
-#[unsafe(no_mangle)]
-pub extern "C" fn warpmagpie_requests(image: &[u8], requests: &mut u8) -> u8
+pub fn warpmagpie_requests(image: &[u8], requests: &mut u8) -> u8
     ensures value { result ≡ requests_answer image.now }
     ensures requests_after { requests.new ≡ requests_value image.now }
 {
     tell(record::requests(image), requests)
 }
 
-#[unsafe(no_mangle)]
-pub extern "C" fn warpmagpie_split_votes(image: &[u8], count: &mut u8) -> u8
+pub fn warpmagpie_split_votes(image: &[u8], count: &mut u8) -> u8
     ensures value { result ≡ split_votes_answer image.now }
     ensures count_after { count.new ≡ split_votes_value image.now }
 {

@@ -4,3 +4,6 @@
 
 mod baud;
 mod calls;
+
+pub use baud::{warpmagpie_check_baud, warpmagpie_plan_baud};
+pub use calls::{warpmagpie_read, warpmagpie_requests, warpmagpie_reset, warpmagpie_run, warpmagpie_split_votes, warpmagpie_take_vector, warpmagpie_write};

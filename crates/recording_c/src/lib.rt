@@ -1,0 +1,25 @@
+// The calls that write the text of a trace as C sees them (include/warpmagpie.h): each is the one of `recording`, with
+// the same clauses.
+#![tactic(auto)]
+
+ghost use Rattle.std.specs.Prelude.{◌≡◌};
+ghost use Rattle.trace.specs.Filling.{buffer_written, buffer_shrunk};
+ghost use Rattle.recording.specs.Calls.{trace_write_answer, trace_write_length, trace_shrink_answer, trace_shrink_length};
+
+#[unsafe(no_mangle)]
+pub extern "C" fn warpmagpie_trace_write(items: &[u8], text: &mut [u8], size: &mut usize) -> u8
+    ensures value { result ≡ trace_write_answer items.now text.old }
+    ensures size_after { size.new ≡ trace_write_length items.now text.old }
+    ensures text_after { text.new ≡ buffer_written items.now text.old }
+{
+    recording::warpmagpie_trace_write(items, text, size)
+}
+
+#[unsafe(no_mangle)]
+pub extern "C" fn warpmagpie_trace_shrink(text: &[u8], shrunk: &mut [u8], size: &mut usize) -> u8
+    ensures value { result ≡ trace_shrink_answer text.now shrunk.old }
+    ensures size_after { size.new ≡ trace_shrink_length text.now shrunk.old }
+    ensures shrunk_after { shrunk.new ≡ buffer_shrunk text.now shrunk.old }
+{
+    recording::warpmagpie_trace_shrink(text, shrunk, size)
+}

@@ -1,0 +1,9 @@
+use Rattle.std.proofs.Common.{sym}
+use Rattle.usart.proofs.HoldingLaws.{held-parts}
+use Rattle.usart.proofs.unit.Usart.hold.Goals as goal
+
+pub returns : goal.returns
+returns c =
+    let a = c.args in
+    rw (c.hold-r.ensures, c.hold-s.ensures, c.passed-b.ensures, c.ticks_in-k.ensures)
+    (sym (held-parts a.n.0 a.self a.rxd))
