@@ -1,9 +1,0 @@
-use borrow.Author.Rules.{rules}
-use Rattle.record.proofs.usart_lift.reception_at.Statement.{statement}
-use Rattle.record.proofs.usart_lift.reception_at.Tie as tie
-
-returns : tie.Need-returns
-returns c = rw c.before.word.ensures
-
-pub reception-at-spec : {M : Type 1} → statement M
-reception-at-spec = tie.close (tie.spec (λ c. search rules) (λ c. search rules) (λ c. search rules) (λ c. search rules) (λ c. search rules) (λ c. search rules) (λ c. search rules) (λ c κs. search rules) (λ c. search rules) returns)
