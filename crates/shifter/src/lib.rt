@@ -40,6 +40,7 @@ pub enum Edged {
 }
 
 // The number of the next edge.
+#[tactic(auto, unfolding(crate::specs::Exchange::next_edge))]
 pub fn next_edge(edges: u8) -> u8
     ensures { result ≡ next_edge edges }
 {
@@ -48,6 +49,7 @@ pub fn next_edge(edges: u8) -> u8
 
 impl Mode {
     // The bit that leaves next.
+    #[tactic(auto, unfolding(crate::specs::Order::out_bit))]
     pub fn out_bit(self, shift: u8) -> bool
         ensures { result ≡ out_bit self.dord shift }
     {
@@ -58,6 +60,7 @@ impl Mode {
     }
 
     // The sent bit leaves and `bit` enters.
+    #[tactic(auto, unfolding(crate::specs::Order::shifted_in))]
     pub fn shifted_in(self, shift: u8, bit: bool) -> u8
         ensures { result ≡ shifted_in self.dord shift bit }
     {
@@ -69,6 +72,7 @@ impl Mode {
     }
 
     // With CPHA 0 odd edges sample, with CPHA 1 even ones.
+    #[tactic(auto, unfolding(crate::specs::Edge::is_sampling))]
     pub fn sampling(self, edge: u8) -> bool
         ensures { result ≡ is_sampling self.cpha edge }
     {
@@ -79,6 +83,7 @@ impl Mode {
     }
 
     // With CPHA 0 edges 2 to 14 put out the next bit, with CPHA 1 odd ones.
+    #[tactic(auto, unfolding(crate::specs::Edge::is_putting))]
     pub fn putting(self, edge: u8) -> bool
         ensures { result ≡ is_putting self.cpha edge }
     {
@@ -92,6 +97,7 @@ impl Mode {
     }
 
     // Edge number `edge` of a byte, with the level of the input.
+    #[tactic(auto, unfolding(crate::specs::Edge::edge_of))]
     pub fn edge(self, r: Shifter, edge: u8, input: bool) -> Shifter
         ensures { result ≡ edge_of self r edge input }
     {
@@ -111,6 +117,7 @@ impl Mode {
     }
 
     // The bit that is out before edge 1, when it was `out` and a byte is filled in.
+    #[tactic(auto, unfolding(crate::specs::Exchange::first_out))]
     pub fn first_out(self, shift: u8, out: bool) -> bool
         ensures { result ≡ first_out self shift out }
     {
@@ -123,6 +130,7 @@ impl Mode {
 
 impl Exchange {
     // The next edge, with the level of the input.
+    #[tactic(auto, unfolding(crate::specs::Exchange::edged_of))]
     pub fn edged(self, mode: Mode, input: bool) -> Edged
         ensures { result ≡ edged_of mode self input }
     {

@@ -5,7 +5,7 @@ use mathlib.Core.Path.{◌≡◌, refl, sym, subst}
 use native.Mathlib.Omega.{arith}
 use lib.Dec.{eqb}
 use borrow.Author.Tests.{eqb-true, eqb-false, eq-eqb, ne_eqb}
-use Rattle.choice.specs.Pick.{pick, digit}
+use Rattle.choice.specs.Pick.{digit}
 use Rattle.choice.specs.Bit.{is_set}
 use Rattle.choice.proofs.Picks.{split, both, clash}
 use Rattle.spi.specs.Unit.{sck_of, pin_of, output_of}

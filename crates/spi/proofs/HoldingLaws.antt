@@ -7,7 +7,7 @@ use native.Mathlib.Omega.{arith}
 use lib.Dec.{eqb}
 use borrow.Author.Tests.{ne_eqb, not-true}
 use Rattle.choice.specs.Times.{times}
-use Rattle.choice.proofs.Picks.{split, both, clash}
+use Rattle.choice.proofs.Picks.{split, clash}
 use Rattle.choice.proofs.TimesLaws.{times-one, times-fixed}
 use Rattle.shifter.specs.Exchange.{first_out}
 use Rattle.spi.specs.Control.{is_enabled, is_master, mode_of, is_mode_fault}

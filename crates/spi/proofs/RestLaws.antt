@@ -1,11 +1,11 @@
 -- A valid unit comes to rest at held levels: a master within 1,024 clocks, which are 16 edges of 64, any other within
 -- two.
-use Prim.Native.Nat.{ℕ, ◌+◌, ◌-◌, ◌*◌, ◌/◌, ◌%◌, ◌≤◌, ◌<◌}
-use mathlib.Core.Bool.{Bool, true, false, not}
+use Prim.Native.Nat.{ℕ, ◌+◌, ◌-◌, ◌*◌, ◌≤◌, ◌<◌}
+use mathlib.Core.Bool.{Bool, true, false}
 use mathlib.Core.Path.{◌≡◌, refl, sym, ap, subst, ◌∙◌}
 use native.Mathlib.Omega.{arith}
 use lib.Dec.{eqb, ltb, lit<, lit≤}
-use borrow.Author.Tests.{eqb-true, eqb-false, ne_eqb, ltb-true, ltb-false, not-true, not-false}
+use borrow.Author.Tests.{eqb-true, eqb-false, ne_eqb, ltb-true, not-true}
 use Rattle.choice.specs.Pick.{pick, digit}
 use Rattle.choice.specs.Times.{times}
 use Rattle.choice.proofs.Picks.{pick_ind, split, both, clash}
@@ -15,7 +15,7 @@ use Rattle.shifter.specs.declared.Edged.{Edged}
 use Rattle.spi.specs.Control.{is_enabled, is_master, cpol_of, mode_of, divisor_number, half, without_mstr, is_mode_fault}
 use Rattle.spi.specs.Means.{differs, with_miso, with_sck}
 use Rattle.spi.specs.Transfer.{is_under_way, byte_of, edged_transfer}
-use Rattle.spi.specs.Clock.{master_of, master_clock, is_sck_edge, selected_of, slave_of, by_mode_of, clock_of}
+use Rattle.spi.specs.Clock.{master_of, is_sck_edge, selected_of, slave_of, by_mode_of, clock_of}
 use Rattle.spi.specs.Holding.{clock_at, held_of, is_presented, slave_rests, master_rests, step_rests, is_at_rest, stays_master}
 use Rattle.spi.specs.Valid.{Valid}
 use Rattle.spi.specs.declared.clock.Levels.{Levels}

@@ -17,6 +17,7 @@ pub struct Levels {
 }
 
 // Whether SCK has an edge that counts: the first of a byte must be a leading one.
+#[tactic(auto, unfolding(crate::specs::Clock::is_sck_edge))]
 fn edge_seen(cpol: bool, edges: u8, last: bool, sck: bool) -> bool
     ensures { result ≡ is_sck_edge cpol edges last sck }
 {
@@ -59,6 +60,7 @@ impl Spi {
     }
 
     // A clock of the master: its clocks to the next edge run down.
+    #[tactic(auto, unfolding(crate::specs::Clock::master_of))]
     fn mastered(mut self, miso: bool) -> Spi
         ensures { result ≡ master_of self miso }
     {
@@ -95,6 +97,7 @@ impl Spi {
     }
 
     // With CPHA 0 and no edge seen the slave shows the first bit.
+    #[tactic(auto, unfolding(crate::specs::Clock::presented_of))]
     fn presented(self) -> Spi
         ensures { result ≡ presented_of self }
     {
@@ -134,6 +137,7 @@ impl Spi {
     }
 
     // A clock of the slave with SS low.
+    #[tactic(auto, unfolding(crate::specs::Clock::selected_of))]
     fn selected(self, l: Levels) -> Spi
         ensures { result ≡ selected_of self l }
     {
@@ -157,6 +161,7 @@ impl Spi {
     }
 
     // A clock of the slave: SS high drops a partial byte.
+    #[tactic(auto, unfolding(crate::specs::Clock::slave_of))]
     fn slaved(self, l: Levels) -> Spi
         ensures { result ≡ slave_of self l }
     {
@@ -167,6 +172,7 @@ impl Spi {
         self.selected(l)
     }
 
+    #[tactic(auto, unfolding(crate::specs::Clock::by_mode_of))]
     fn stepped(self, l: Levels) -> Spi
         ensures { result ≡ by_mode_of self l }
     {

@@ -44,6 +44,7 @@ impl Control {
     }
 
     // SPI2X, SPR1 and SPR0 as a number.
+    #[tactic(auto, unfolding(crate::specs::Control::divisor_number))]
     pub fn divisor_number(self) -> u8
         ensures { result ≡ divisor_number self }
     {
@@ -70,6 +71,7 @@ impl Control {
     }
 
     // A mode fault, of a master: SS is an input and low.
+    #[tactic(auto, unfolding(crate::specs::Control::is_mode_fault))]
     pub fn mode_fault(self, ss: bool) -> bool
         ensures { result ≡ is_mode_fault self ss }
     {
@@ -80,6 +82,7 @@ impl Control {
     }
 
     // SPE and MSTR are set and SS is an output, so that no mode fault can come.
+    #[tactic(auto, unfolding(crate::specs::Control::keeps_master))]
     pub fn keeps_master(self) -> bool
         ensures { result ≡ keeps_master self }
     {

@@ -15,6 +15,7 @@ pub struct Passed {
 }
 
 impl Spi {
+    #[tactic(auto, unfolding(crate::specs::Holding::is_presented))]
     fn is_presented(self) -> bool
         ensures { result ≡ is_presented self }
     {
@@ -28,6 +29,7 @@ impl Spi {
         true
     }
 
+    #[tactic(auto, unfolding(crate::specs::Holding::slave_rests))]
     fn slave_rests(self, ss: bool) -> bool
         ensures { result ≡ slave_rests self ss }
     {
@@ -37,6 +39,7 @@ impl Spi {
         self.is_presented()
     }
 
+    #[tactic(auto, unfolding(crate::specs::Holding::master_rests))]
     fn master_rests(self, ss: bool) -> bool
         ensures { result ≡ master_rests self ss }
     {
@@ -46,6 +49,7 @@ impl Spi {
         self.transfer.left.0 == 0
     }
 
+    #[tactic(auto, unfolding(crate::specs::Holding::step_rests))]
     fn step_rests(self, ss: bool) -> bool
         ensures { result ≡ step_rests self ss }
     {
@@ -60,6 +64,7 @@ impl Spi {
     }
 
     // At these levels a clock changes nothing.
+    #[tactic(auto, unfolding(crate::specs::Holding::is_at_rest))]
     pub fn rests(self, l: Levels) -> bool
         ensures { result ≡ is_at_rest self l }
     {
@@ -69,6 +74,7 @@ impl Spi {
         self.step_rests(l.ss)
     }
 
+    #[tactic(auto, unfolding(crate::specs::Holding::stays_master))]
     fn stays_master(self, ss: bool) -> bool
         ensures { result ≡ stays_master self.control ss }
     {
@@ -81,6 +87,7 @@ impl Spi {
         false
     }
 
+    #[tactic(auto, unfolding(crate::specs::Holding::waits_for))]
     fn waits(self, ss: bool) -> u8
         ensures { result ≡ waits_for self ss }
     {

@@ -67,6 +67,7 @@ impl Spi {
         self
     }
 
+    #[tactic(auto, unfolding(crate::specs::Register::write_spcr))]
     fn write_spcr(self, v: u8) -> Written
         ensures { result ≡ write_spcr self v }
     {
@@ -89,6 +90,7 @@ impl Spi {
         self
     }
 
+    #[tactic(auto, using(shifter::proofs::Laws::odd_set), unfolding(crate::specs::Register::write_spsr))]
     fn write_spsr(self, v: u8) -> Written
         ensures { result ≡ write_spsr self v }
     {
@@ -131,6 +133,7 @@ impl Spi {
     }
 
     // During a transfer it sets WCOL and nothing else.
+    #[tactic(auto, unfolding(crate::specs::Register::loaded_of))]
     fn loaded(self, v: u8) -> Spi
         ensures { result ≡ loaded_of self v }
     {
@@ -205,6 +208,7 @@ impl Spi {
     }
 
     // Vector 1 clears and disarms SPIF.
+    #[tactic(auto, unfolding(crate::specs::Register::vector_of))]
     pub fn take_vector(self) -> Written
         ensures { result ≡ vector_of self }
     {

@@ -15,6 +15,7 @@ pub struct Transfer {
 }
 
 impl Transfer {
+    #[tactic(auto, unfolding(crate::specs::Transfer::is_under_way))]
     pub fn under_way(self) -> bool
         ensures { result ≡ is_under_way self }
     {

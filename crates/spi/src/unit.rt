@@ -24,6 +24,7 @@ pub struct Spi {
     pub pins: Pins,
 }
 
+#[tactic(auto, unfolding(crate::specs::Means::differs))]
 pub fn differs(a: bool, b: bool) -> bool
     ensures { result ≡ differs a b }
 {
@@ -31,6 +32,7 @@ pub fn differs(a: bool, b: bool) -> bool
 }
 
 // A pin's level, with the driven mark four places above it; undriven shows 0.
+#[tactic(auto, unfolding(crate::specs::Unit::pin_of))]
 fn pin(driven: bool, level: bool) -> u8
     ensures value { result ≡ pin_of driven level }
     ensures upper_bound { result ≤ 17 }
@@ -81,6 +83,7 @@ impl Spi {
     }
 
     // MOSI, MISO and SCK in bits 1 to 3, their driven marks in bits 5 to 7, with the level of SS at this clock.
+    #[tactic(auto, unfolding(crate::specs::Unit::output_of))]
     pub fn output(self, ss: bool) -> u8
         ensures { result ≡ output_of self ss }
     {
@@ -99,6 +102,7 @@ impl Spi {
     }
 
     // SPIF with SPIE.
+    #[tactic(auto, unfolding(crate::specs::Unit::is_requested))]
     pub fn requested(self) -> bool
         ensures { result ≡ is_requested self }
     {
