@@ -47,6 +47,7 @@ fn fits(s: &[u8]) -> bool
     spi_fits(spi_at(s))
 }
 
+#[tactic(auto, unfolding(crate::specs::Accepts::is_record))]
 pub(crate) fn is_record(s: &[u8]) -> bool
     ensures { result ≡ is_record s.now }
 {
@@ -67,6 +68,7 @@ pub(crate) fn device_at(s: &[u8]) -> Device
 }
 
 // The device of a record.
+#[tactic(auto, unfolding(crate::specs::Codec::decode_of))]
 pub fn decode(s: &[u8]) -> Decoded
     ensures { result ≡ decode_of s.now }
 {
@@ -77,6 +79,7 @@ pub fn decode(s: &[u8]) -> Decoded
 }
 
 // Writes a device's record; a slice that is not as long as a record is left as it is.
+#[tactic(auto, unfolding(crate::specs::Codec::stored_over, crate::specs::Codec::record_of))]
 pub fn store(d: Device, s: &mut [u8])
     ensures { s.new ≡ stored_over d s.old }
 {

@@ -80,6 +80,7 @@ pub fn flag_code(f: Flag) -> u8
 }
 
 // Any other code gives a clear flag: a record that has one is refused.
+#[tactic(auto, unfolding(crate::specs::Codes::flag_of))]
 pub fn flag_of(code: u8) -> Flag
     ensures { result ≡ flag_of code }
 {

@@ -44,6 +44,7 @@ fn data(b: Buffer) -> u16
     }
 }
 
+#[tactic(auto, unfolding(crate::specs::Parts::buffer_from))]
 pub fn buffer_of(full: bool, data: u16) -> Buffer
     ensures { result ≡ buffer_from full «data» }
 {
@@ -66,6 +67,7 @@ fn transmission(s: ShiftRegister) -> Transmission
     }
 }
 
+#[tactic(auto, unfolding(crate::specs::Parts::shifter_from))]
 pub fn shifter_of(sending: bool, t: Transmission) -> ShiftRegister
     ensures { result ≡ shifter_from sending t }
 {
@@ -118,6 +120,7 @@ fn reception(s: Sampler) -> Reception
     }
 }
 
+#[tactic(auto, unfolding(crate::specs::Parts::sampler_from))]
 pub fn sampler_of(receiving: bool, last: bool, r: Reception) -> Sampler
     ensures { result ≡ sampler_from receiving last r }
 {

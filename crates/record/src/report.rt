@@ -51,6 +51,7 @@ fn requests_at(s: &[u8]) -> u8
     serial_requests(s) + p.requests()
 }
 
+#[tactic(auto, unfolding(crate::specs::Report::report_of))]
 pub fn requests(s: &[u8]) -> Reported
     ensures { result ≡ report_of requests_of s.now }
 {
@@ -61,6 +62,7 @@ pub fn requests(s: &[u8]) -> Reported
 }
 
 // What is not in use is 0, so it need not be looked at whether a frame is held.
+#[tactic(auto, unfolding(crate::specs::Report::report_of))]
 pub fn split_votes(s: &[u8]) -> Reported
     ensures { result ≡ report_of split_votes s.now }
 {
