@@ -14,7 +14,7 @@ made=$(mktemp -d)
 trap 'rm -rf "$made"' EXIT
 # NAME_c exports the calls of the crate NAME, and its archive has one member, NAME_c.o.
 for crate in warpmagpie holding tracing recording; do
-    rt lib ${crate}_c >target/staticlib.log 2>&1 || { cat target/staticlib.log; exit 1; }
+    (cd crates/${crate}_c && rt lib) >target/staticlib.log 2>&1 || { cat target/staticlib.log; exit 1; }
     (cd "$made" && ar x "$OLDPWD/crates/${crate}_c/out/lib${crate}_c.a" ${crate}_c.o && mv ${crate}_c.o $crate.o) \
         >target/staticlib.log 2>&1 || { cat target/staticlib.log; exit 1; }
 done

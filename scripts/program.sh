@@ -13,6 +13,6 @@ mkdir -p target/bin
 # built, which a crate that is not proved never is.
 built=crates/$name/out/$name
 rm -f "$built"
-rt run "$name" >"target/$name.log" 2>&1 </dev/null || true
+(cd "crates/$name" && rt run) >"target/$name.log" 2>&1 </dev/null || true
 [ -x "$built" ] || { cat "target/$name.log"; exit 1; }
 cp "$built" "$program"

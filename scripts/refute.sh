@@ -83,8 +83,7 @@ refute() { # NAME EDIT, in a shell of its own
     apply "$top/crates/$crate/must-fail/$2.edit" && leave_out $(field without "$file") $(others "$file") || return 1
     sed '1,/^proof:$/d' "$file" >proofs/Refutation.antt
     echo 'pub mod Refutation' >>proofs/Lib.antt
-    cd "$work" || return 1
-    if rt check "$crate" >"$log" 2>&1 && grep -q '^logic=proved ' "$log"; then
+    if rt check >"$log" 2>&1 && grep -q '^logic=proved ' "$log"; then
         echo "refuted: $crate/$2 ($((SECONDS - began)) s)"
     else
         echo "refute: $crate/$2 is NOT refuted; see target/refute/${log##*/}:"
