@@ -31,8 +31,8 @@ pub no-worse-known : (clock rate : ℕ) (s other : Setting) {t u x y m n : ℕ} 
     → leb (x * m) (y * n) ≡ is_no_worse clock (total_of s rate) (total_of other rate)
 no-worse-known clock rate s other h et eu ex ey em en =
     rw (ex, ey, et, eu, em, en)
-    (cancel rate (distance clock (total_of s rate)) (distance clock (total_of other rate)) (divisor_of other) (divisor_of s)
-    h)
+    (cancel rate (distance clock (total_of s rate)) (distance clock (total_of other rate)) (divisor_of other)
+    (divisor_of s) h)
 
 -- both sides fit 64 bits
 pub total-most : {rate t : ℕ} → rate ≤ 2500000 → t ≤ 1048576 * rate → t ≤ 2621440000000

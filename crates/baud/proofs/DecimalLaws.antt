@@ -46,7 +46,8 @@ too_much value text h =
     (λ e. pick-false (are_digits text) _ _ _ e refl)
 
 -- byte by byte is as a whole
-pub read-after : (value : ℕ) (text : List ℕ) → value ≤ 4294967295 → read_from (Value value) text ≡ number_after value text
+pub read-after : (value : ℕ) (text : List ℕ) → value ≤ 4294967295
+    → read_from (Value value) text ≡ number_after value text
 unfolding read_from are_digits worth_after
 read-after value [] h = value-fits value h
 read-after value (b ∷ text) h =

@@ -11,7 +11,7 @@ use std::str;
 // The longest trace that a program takes (document 02, M-100).
 pub const MOST: usize = 65536;
 
-// No path has as many bytes.
+// More bytes than any path has.
 const PATH_MAX: usize = 4096;
 
 // Reads until the buffer is full, the file ends or a read fails, and answers how many bytes it put there.
@@ -29,7 +29,8 @@ fn read_full(file: &mut impl Read, text: &mut [u8]) -> usize
     done
 }
 
-// As many bytes of the file that argument 1 names as there is room for; none of one that can't be read.
+// As many bytes of the file that argument 1 names as there is room for; none of one that can't be read, as where its
+// name is not UTF-8.
 pub fn read_file<R: Env + Files>(rt: &R, text: &mut [u8]) -> usize
     ensures { IsPrefixLen result text.new }
 {
