@@ -2,7 +2,8 @@ use Rattle.std.proofs.Common.{◌≡◌, ℕ, ◌+◌, ◌-◌, ◌<◌, ◌≤�
 use Rattle.usart.specs.Unit.{output_of}
 use Rattle.usart.specs.declared.unit.Usart.{Usart}
 use Rattle.device.specs.ByUnit.{serial_ran, serial_outputs}
-use Rattle.device.proofs.LoopLaws.{serial-on, serial-outputs-on, serial-skip, serial-outputs-skip, skipped-few, skipped-unit}
+use Rattle.device.proofs.LoopLaws.{serial-on, serial-outputs-on, serial-skip, serial-outputs-skip}
+use Rattle.device.proofs.LoopLaws.{skipped-few, skipped-unit}
 use Rattle.device.proofs.serial_run.pass.Goals as goal
 
 pub returns-then-q-eq0-clause-levels_value : goal.returns-then-q-eq0-clause-levels_value

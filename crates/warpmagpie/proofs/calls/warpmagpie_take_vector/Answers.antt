@@ -5,7 +5,9 @@ pub returns-in-Accepted : goal.returns-in-Accepted
 returns-in-Accepted c =
     let a = c.args in
     let s = c.settle.ensures in
-    let h = vector-done a.image.now c.decode-got.ensures c.in-Accepted.is a.vector c.take_vector.ensures s.value s.image_after in
+    let h =
+    vector-done a.image.now c.decode-got.ensures c.in-Accepted.is a.vector c.take_vector.ensures s.value
+    s.image_after in
     record { value = h.0; image_after = h.1 }
 
 pub returns-in-Refused : goal.returns-in-Refused
