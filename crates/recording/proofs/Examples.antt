@@ -1,7 +1,5 @@
 -- Closed cases, which the premises of the laws hold of: the request's example written from its list into 40 bytes, and
 -- shrunk into as many bytes as it has.
-use Prim.Native.Nat.{ℕ}
-use mathlib.Core.List.{List}
 use mathlib.Core.Path.{◌≡◌, refl}
 use lib.ListN.{replicate}
 use Rattle.decimal.specs.Digits.{digits_of, digits_from}

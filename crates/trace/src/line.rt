@@ -97,6 +97,7 @@ fn clocks_at(text: &[u8], at: usize) -> Line
 }
 
 // The fields at `at` of a line that begins with the letter `letter`.
+#[tactic(auto, unfolding(crate::specs::Line::item_at))]
 fn item_at(text: &[u8], letter: u8, at: usize) -> Line
     ensures { result ≡ item_at text.now letter at }
 {

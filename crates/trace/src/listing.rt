@@ -24,6 +24,7 @@ fn long_of(b0: u8, b1: u8, b2: u8, b3: u8) -> u32
     b0 as u32 + 256 * (b1 as u32) + 65536 * (b2 as u32) + 16777216 * (b3 as u32)
 }
 
+#[tactic(auto, unfolding(crate::specs::Listing::clocks_from))]
 fn clocks_from(n: u8, place: u16, amount: u32) -> Entry
     ensures { result ≡ clocks_from n place amount }
 {
@@ -39,6 +40,7 @@ fn clocks_from(n: u8, place: u16, amount: u32) -> Entry
     Entry::Held(Item::Clocks(n, amount))
 }
 
+#[tactic(auto, unfolding(crate::specs::Listing::call_from))]
 fn call_from(letter: u8, n: u8, place: u16, amount: u32) -> Entry
     ensures { result ≡ call_from letter n place amount }
 {

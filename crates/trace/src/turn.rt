@@ -50,6 +50,7 @@ fn at_call(levels: u8, held: u32) -> Turn
     }
 }
 
+#[tactic(auto, unfolding(crate::specs::Turning::turn_of))]
 pub(crate) fn turned(levels: u8, clocks: u32, i: Item) -> Turn
     ensures { result ≡ turn_of levels clocks i }
 {
