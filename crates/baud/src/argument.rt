@@ -5,6 +5,7 @@ ghost use Rattle.decimal.specs.Field.{with_digit};
 ghost use Rattle.baud.specs.Decimal.{digit_read, byte_read, number_in};
 
 use decimal::is_digit;
+use std::env::{Env, FillError};
 
 #[derive(Clone, Copy)]
 pub(crate) enum Number {
@@ -59,8 +60,20 @@ fn number_in(text: &[u8]) -> Number
 }
 
 // Argument i. Where it is missing, or longer than the buffer, there is no text.
-pub(crate) fn argument(i: usize) -> Number {
+pub(crate) fn argument(rt: &impl Env, i: usize) -> Number {
     let mut text = [0u8; 32];
-    let n = os::arg(i, &mut text);
-    number_in(&text[..n])
+    match rt.arg(i, &mut text) {
+        Ok(n) => number_in(&text[..n]),
+        Err(_) => Number::Nothing,
+    }
+}
+
+// Whether there is an argument i.
+pub(crate) fn is_given(rt: &impl Env, i: usize) -> bool {
+    let mut text = [0u8; 1];
+    match rt.arg(i, &mut text) {
+        Ok(_) => true,
+        Err(FillError::TooLong) => true,
+        Err(FillError::NotPresent) => false,
+    }
 }

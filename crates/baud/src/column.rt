@@ -1,50 +1,77 @@
 // Words and numbers on standard output, each at the right of a column.
-use libc::STDOUT_FILENO;
+use std::fmt::Display;
+use std::io;
+use std::io::Stdout;
 
-pub(crate) fn text(words: &[u8]) {
-    io::write_all(STDOUT_FILENO, words);
+// Standard output. After a write that failed, nothing more is written.
+#[derive(Drop)]
+pub(crate) struct Output {
+    stdout: Stdout,
+    written: io::Result<()>,
+}
+
+impl Output {
+    pub(crate) fn new(stdout: Stdout) -> Output {
+        Output {
+            stdout: stdout,
+            written: Ok(()),
+        }
+    }
+
+    fn print<D: Display + Drop>(&mut self, value: D) {
+        if self.written.is_ok() {
+            self.written = self.stdout.print(value);
+        }
+    }
+
+    // The error of the write that failed, if one did.
+    pub(crate) fn finish(self) -> io::Result<()> {
+        self.written
+    }
+}
+
+pub(crate) fn text(out: &mut Output, words: &[u8]) {
+    if out.written.is_ok() {
+        out.written = out.stdout.write_all(words);
+    }
 }
 
 // The spaces before `used` bytes in a column of this width.
-pub(crate) fn fill(width: usize, used: usize) {
+pub(crate) fn fill(out: &mut Output, width: usize, used: usize) {
     let mut i = used;
     while i < width {
-        text(b" ");
+        text(out, b" ");
         i += 1;
     }
 }
 
-pub(crate) fn words(width: usize, w: &[u8]) {
-    fill(width, w.len());
-    text(w);
+pub(crate) fn words(out: &mut Output, width: usize, w: &[u8]) {
+    fill(out, width, w.len());
+    text(out, w);
 }
 
-pub(crate) fn decimal(width: usize, n: u64) {
-    let mut digits = [0u8; 20];
-    let k = io::decimal(n, &mut digits);
-    fill(width, k);
-    text(&digits[..k]);
+pub(crate) fn decimal(out: &mut Output, width: usize, n: u64) {
+    out.print(format_args!("{n:>width$}"));
 }
 
-pub(crate) fn hex_byte(width: usize, n: u64) {
-    fill(width, 4);
-    text(b"0x");
-    io::print_hex(STDOUT_FILENO, n, 2);
+pub(crate) fn hex_byte(out: &mut Output, width: usize, n: u64) {
+    fill(out, width, 4);
+    out.print(format_args!("0x{n:02x}"));
 }
 
 // The whole part in a column of this width, and three decimals.
-pub(crate) fn thousandths(width: usize, n: u64) {
-    decimal(width, n / 1000);
-    text(b".");
-    decimal(1, n / 100 % 10);
-    decimal(1, n / 10 % 10);
-    decimal(1, n % 10);
+pub(crate) fn thousandths(out: &mut Output, width: usize, n: u64) {
+    decimal(out, width, n / 1000);
+    text(out, b".");
+    decimal(out, 1, n / 100 % 10);
+    decimal(out, 1, n / 10 % 10);
+    decimal(out, 1, n % 10);
 }
 
-pub(crate) fn yes_or_no(width: usize, yes: bool) {
+pub(crate) fn yes_or_no(out: &mut Output, width: usize, yes: bool) {
     if yes {
-        words(width, b"yes");
+        words(out, width, b"yes");
     } else {
-        words(width, b"no");
+        words(out, width, b"no");
     }
 }

@@ -1,7 +1,8 @@
 // The error, from signed tenths of a percent.
 ghost use Rattle.std.specs.Prelude.{◌≡◌, nat_abs};
 
-use crate::column::{decimal, fill, text};
+use crate::column::{Output, decimal, fill, text};
+use decimal::digit_count;
 
 // The column's width: two spaces, and +60935.2 %.
 pub(crate) const WIDTH: usize = 12;
@@ -16,11 +17,11 @@ fn magnitude(tenths: i32) -> u64
     wide as u64
 }
 
-fn sign(tenths: i32) {
+fn sign(out: &mut Output, tenths: i32) {
     if tenths < 0 {
-        text(b"-");
+        text(out, b"-");
     } else if tenths > 0 {
-        text(b"+");
+        text(out, b"+");
     }
 }
 
@@ -29,14 +30,13 @@ fn room(tenths: i32) -> usize {
     if tenths == 0 { WIDTH - 4 } else { WIDTH - 5 }
 }
 
-pub(crate) fn percent(tenths: i32) {
+pub(crate) fn percent(out: &mut Output, tenths: i32) {
     let m = magnitude(tenths);
-    let mut digits = [0u8; 20];
-    let k = io::decimal(m / 10, &mut digits);
-    fill(room(tenths), k);
-    sign(tenths);
-    text(&digits[..k]);
-    text(b".");
-    decimal(1, m % 10);
-    text(b" %");
+    let whole = m / 10;
+    fill(out, room(tenths), digit_count(whole as u32));
+    sign(out, tenths);
+    decimal(out, 1, whole);
+    text(out, b".");
+    decimal(out, 1, m % 10);
+    text(out, b" %");
 }

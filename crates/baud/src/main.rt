@@ -12,28 +12,29 @@ mod report;
 mod setting;
 mod table;
 
-use argument::{Number, argument};
+use argument::{Number, argument, is_given};
+use column::Output;
+use std::io;
 
-fn usage() {
-    let line: &[u8] =
-        b"usage: baud CLOCK RATE, in decimal digits: CLOCK 1 to 20000000 Hz, RATE 1 to 2500000 baud\n";
-    io::write_all(libc::STDERR_FILENO, line);
+fn usage(rt: &impl Eprint) -> io::Result<()> {
+    eprintln!(rt;
+        "usage: baud CLOCK RATE, in decimal digits: CLOCK 1 to 20000000 Hz, RATE 1 to 2500000 baud"
+    )
 }
 
-fn main() {
-    if os::arg_count() != 3 {
-        usage();
-        return;
+fn main(rt: HostRuntime) -> io::Result<()> {
+    if is_given(&rt, 3) {
+        return usage(&rt);
     }
-    let Number::Value(clock) = argument(1) else {
-        usage();
-        return;
+    let Number::Value(clock) = argument(&rt, 1) else {
+        return usage(&rt);
     };
-    let Number::Value(rate) = argument(2) else {
-        usage();
-        return;
+    let Number::Value(rate) = argument(&rt, 2) else {
+        return usage(&rt);
     };
-    if !report::reported(clock, rate) {
-        usage();
+    let mut out = Output::new(rt.stdout());
+    if !report::reported(&mut out, clock, rate) {
+        return usage(&rt);
     }
+    out.finish()
 }

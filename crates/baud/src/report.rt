@@ -3,52 +3,59 @@ ghost use Rattle.std.specs.Prelude.{◌≡◌};
 ghost use Rattle.planner.specs.Planning.{is_in_range};
 
 use crate::advice::{Advice, advised};
-use crate::column::{decimal, text};
+use crate::column::{Output, decimal, text};
 use crate::setting::Setting;
 use crate::table;
 use planner::Planned;
 
-fn title(clock: u32, rate: u32) {
-    text(b"clock ");
-    decimal(1, clock as u64);
-    text(b" Hz, rate ");
-    decimal(1, rate as u64);
-    text(b" baud\n\n");
+fn title(out: &mut Output, clock: u32, rate: u32) {
+    text(out, b"clock ");
+    decimal(out, 1, clock as u64);
+    text(out, b" Hz, rate ");
+    decimal(out, 1, rate as u64);
+    text(out, b" baud\n\n");
 }
 
-fn legend() {
+fn legend(out: &mut Output) {
     text(
+        out,
         b"\nD is data bits plus parity bit: 8 for 8N1, 9 for 8E1. yes: a receiver with this setting is within its ",
     );
     text(
+        out,
         b"recommended\nlimit of the rate error, against a sender that keeps the rate exactly.\n\n",
     );
 }
 
-fn take(u2x: bool) {
-    text(b"Take ");
-    table::speed(u2x);
-    text(b" speed: ");
+fn take(out: &mut Output, u2x: bool) {
+    text(out, b"Take ");
+    table::speed(out, u2x);
+    text(out, b" speed: ");
 }
 
-fn advise(a: Advice) {
+fn advise(out: &mut Output, a: Advice) {
     match a {
         Advice::MoreLengths(u2x) => {
-            take(u2x);
-            text(b"it is within the limit at more frame lengths.\n");
+            take(out, u2x);
+            text(out, b"it is within the limit at more frame lengths.\n");
         }
         Advice::SmallerError(u2x) => {
-            take(u2x);
-            text(b"it is within the limit at as many frame lengths, and its error is smaller.\n");
+            take(out, u2x);
+            text(
+                out,
+                b"it is within the limit at as many frame lengths, and its error is smaller.\n",
+            );
         }
         Advice::Even => {
-            take(false);
+            take(out, false);
             text(
+                out,
                 b"frame lengths within the limit and error are the same, and it has more samples a bit.\n",
             );
         }
         Advice::Neither => {
             text(
+                out,
                 b"Neither speed is within the limit at any frame length: take another rate or another clock.\n",
             );
         }
@@ -56,7 +63,7 @@ fn advise(a: Advice) {
 }
 
 // Whether clock and rate are in range; if so, the planner's two settings are shown, and which to take.
-pub(crate) fn reported(clock: u32, rate: u32) -> bool
+pub(crate) fn reported(out: &mut Output, clock: u32, rate: u32) -> bool
     ensures { result ≡ is_in_range clock rate }
 {
     let Planned::Done(ubrr, tenths) = planner::plan(clock, rate, 0) else {
@@ -73,11 +80,11 @@ pub(crate) fn reported(clock: u32, rate: u32) -> bool
         u2x: true,
         ubrr: double_ubrr,
     };
-    title(clock, rate);
-    table::heads();
-    table::row(clock, rate, normal, tenths);
-    table::row(clock, rate, double, double_tenths);
-    legend();
-    advise(advised(clock, rate, normal, double));
+    title(out, clock, rate);
+    table::heads(out);
+    table::row(out, clock, rate, normal, tenths);
+    table::row(out, clock, rate, double, double_tenths);
+    legend(out);
+    advise(out, advised(clock, rate, normal, double));
     true
 }

@@ -3,6 +3,7 @@ pub mod StepLaws
 pub mod ViewLaws
 pub mod ReceivingView
 pub mod ReceivingLine
+pub mod NoisyLine
 pub mod SendingLine
 pub mod Independence
 pub mod MarkedCases

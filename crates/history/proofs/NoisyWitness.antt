@@ -9,18 +9,20 @@ use lib.Dec.{lit≤, lit<}
 use Rattle.choice.specs.Pick.{digit}
 use Rattle.frame.specs.Parity.{sum_of_bits}
 use Rattle.frame.specs.Word.{frame_bit, parity_error}
-use Rattle.usart.specs.Baud.{left_of, tick_from}
+use Rattle.usart.specs.Baud.{left_of}
+use Rattle.usart.specs.Sending.{tick_from}
 use Rattle.usart.specs.Line.{line_level}
 use Rattle.usart.specs.Noise.{is_hit_below, is_turned}
 use Rattle.usart.specs.Receiver.{listened_of}
-use Rattle.usart.specs.Receiving.{LineOn, clean_with, heard}
+use Rattle.usart.specs.NoisyReceiving.{LineOnWire, clean_with, heard}
 use Rattle.usart.specs.Sampler.{idle_of, cast_of, next_bit_of, shifted_of, tally_of, decided_of, voted_of, sampled_of, sampler_of}
 use Rattle.usart.specs.Sender.{stepped_of}
 use Rattle.usart.specs.Settings.{size_of, parity_of}
 use Rattle.usart.specs.Unit.{is_busy, clock_of}
 use Rattle.usart.specs.Write.{formatted_of, timed_of}
 use Rattle.usart.proofs.ClosedLists.{bool-eqb, shown, shown-shows, none, room, none_waits}
-use Rattle.usart.proofs.Examples.{listening, slower, two_frames, first_hits, second_hits, hit_of, noise, noisy}
+use Rattle.usart.proofs.Examples.{listening}
+use Rattle.usart.proofs.NoisyExamples.{slower, two_frames, first_hits, second_hits, hit_of, noise, noisy}
 use Rattle.usart.proofs.Witness.{allowed}
 use Rattle.spi.specs.Unit.{reset_spi}
 use Rattle.spi.specs.Clock.{master_of, by_mode_of}
@@ -43,9 +45,10 @@ use Rattle.record.specs.declared.codec.Decoded.TheVariants.{Accepted}
 use Rattle.warpmagpie.specs.Calls.{query_value_on, write_on, read_on, run_on}
 use Rattle.holding.specs.Hold.{hold_in, hold_on}
 use Rattle.history.specs.Call.{run, hold, Call, write, read, pass, report, split_votes, Bytes, rxd_levels}
-use Rattle.history.specs.Receiving.{HearsNoisy, DeliveredBy, reads_of}
+use Rattle.history.specs.Receiving.{reads_of}
+use Rattle.history.specs.NoisyReceiving.{HearsNoisy, DeliveredSo}
 use Rattle.history.proofs.ClosedHistories.{throughout, only, only-all, roomy, roomy-all}
-use Rattle.history.proofs.ReceivingLine.{receives-noisy}
+use Rattle.history.proofs.NoisyLine.{receives-noisy}
 
 -- the receiver of the unit's example, 5 data bits with even parity at double speed; the SPI as after reset
 unfoldable pub start : Device
@@ -79,7 +82,7 @@ record Found (s : List ℕ) : Type 0 where
   valid : decode_of s ≡ Accepted start
   only : throughout only s calls ≡ true
   roomy : throughout roomy s calls ≡ true
-  line : LineOn noisy 2440 100 two_frames slower.format 2 (rxd_levels s calls)
+  line : LineOnWire noisy 2440 100 two_frames slower.format 2 (rxd_levels s calls)
   reads : reads_of s calls ≡ clean_with 4 (record { start = 3; «data» = 21 }) ∷ clean_with 5 (record { start = 200; «data» = 10 }) ∷ []
 
 found : Found (record_of start)
@@ -116,7 +119,7 @@ witness = record {
 }
 
 -- .. and so its conclusion
-pub witnessed : DeliveredBy (heard slower.format noise) 2440 100 two_frames start (record_of start) calls
+pub witnessed : DeliveredSo (heard slower.format noise) 2440 100 two_frames start (record_of start) calls
 unfolding start
 witnessed = receives-noisy noise 2440 100 two_frames start (record_of start) calls witness
 

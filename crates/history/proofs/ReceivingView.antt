@@ -10,14 +10,14 @@ use Rattle.choice.specs.Pick.{pick}
 use Rattle.choice.proofs.Picks.{clash}
 use Rattle.usart.specs.Event.{Event, is_refused, is_udr0, at_clocks, levels_of, OnlyData as OnlyDataAt}
 use Rattle.usart.specs.Read.{split_votes as serial_split_votes, read_of as serial_read_of}
-use Rattle.usart.specs.Receiving.{Seen, NoneWaits as NoneWaitsAt, seen_by as seen_at, reads_of as reads_in}
+use Rattle.usart.specs.Receiving.{Seen, NoneWaits as NoneWaitsAt, seen_by as seen_at, reads_of as reads_in, arrivals_of as arrivals_at}
 use Rattle.usart.specs.Unit.{clock_of}
 use Rattle.usart.specs.Write.{write_of as serial_write_of}
 use Rattle.usart.specs.declared.unit.Usart.{Usart}
 use Rattle.usart.specs.declared.write.Register.TheVariants.{Ucsr0a, Ucsr0b, Udr0}
 use Rattle.usart.specs.declared.write.Written.{Written as SerialWritten}
 use Rattle.usart.specs.declared.write.Written.TheVariants.{Done as SerialDone, Refused as SerialRefused}
-use Rattle.usart.proofs.AppendLaws.{levels-append, only-append, none-waits-append, reads-append, clocks-append}
+use Rattle.usart.proofs.AppendLaws.{levels-append, only-append, none-waits-append, reads-append, arrivals-append, clocks-append}
 use Rattle.device.specs.Address.{place_of}
 use Rattle.device.specs.Outcome.{answer_of, value_of}
 use Rattle.device.specs.Register.{serial_written, write_in}
@@ -32,7 +32,7 @@ use Rattle.record.specs.Codec.{decode_of}
 use Rattle.record.specs.declared.codec.Decoded.TheVariants.{Accepted}
 use Rattle.warpmagpie.specs.Calls.{query_value_on, read_value, split_votes_value}
 use Rattle.history.specs.Call.{Call, reset, write, read, vector, pass, effect, record_after, along, Throughout, usart_of, OnlyDataCall, rxd_levels}
-use Rattle.history.specs.Receiving.{NoneWaits, seen_by, taken_by, reads_of}
+use Rattle.history.specs.Receiving.{NoneWaits, seen_by, taken_by, reads_of, arrivals_of}
 use Rattle.history.proofs.StepLaws.{write-on, read-on}
 use Rattle.history.proofs.ViewLaws.{events_of, view_of, events-are, Acts, usart-is, view}
 
@@ -42,12 +42,11 @@ rxd-view =
     view (λ j s c. map rxd_in (effect s c).levels) (λ j u es. levels_of es) (λ j u. refl) (λ j u es fs. levels-append es fs)
     (λ j s c a. events-are (λ ls es. map rxd_in ls ≡ levels_of es) (λ ls. sym (levels-serial ls)) (λ r v. refl) (λ r. refl) refl s c) 0
 
--- what only clocks give: a frame completes at one, and a vote is cast
-pub clocks-view : {A : Type 0} (g : ℕ → Usart → Bool → List A) (s : List ℕ) (cs : List Call) → Throughout Acts s cs
-    → along (λ j s c. at_clocks g j (usart_of s) (clocks_of (effect s c).levels)) 0 s cs ≡ at_clocks g 0 (usart_of s) (view_of s cs)
-clocks-view g s cs =
-    view (λ j s c. at_clocks g j (usart_of s) (clocks_of (effect s c).levels)) (at_clocks g) (λ j u. refl) (clocks-append g)
-    (λ j s c a. events-are (λ ls es. at_clocks g j (usart_of s) (clocks_of ls) ≡ at_clocks g j (usart_of s) es) (λ ls. refl) (λ r v. refl) (λ r. refl) refl s c) 0 s cs
+-- only at a clock does a frame complete
+pub arrivals-view : (s : List ℕ) (cs : List Call) → Throughout Acts s cs → arrivals_of s cs ≡ arrivals_at 0 (usart_of s) (view_of s cs)
+arrivals-view =
+    view (λ j s c. arrivals_at j (usart_of s) (clocks_of (effect s c).levels)) arrivals_at (λ j u. refl) arrivals-append
+    (λ j s c a. events-are (λ ls es. arrivals_at j (usart_of s) (clocks_of ls) ≡ arrivals_at j (usart_of s) es) (λ ls. refl) (λ r v. refl) (λ r. refl) refl s c) 0
 
 -- only a clock accepts a start bit
 pub none-waits-view : (s : List ℕ) (cs : List Call) → Throughout Acts s cs → NoneWaits s cs → NoneWaitsAt (usart_of s) (view_of s cs)
@@ -140,3 +139,10 @@ pub reads-view : (s : List ℕ) (cs : List Call) → Throughout Acts s cs → re
 reads-view =
     view (λ j. taken_by) (λ j. reads_in) (λ j u. refl) (λ j. reads-append)
     (λ j s c a. taken-by s a.device a.valid c ∙ ap (λ (u : Usart). reads_in u (events_of s c)) (sym (usart-is s a.device a.valid))) 0
+
+-- what only clocks give: a frame completes at one, and a vote is cast
+pub clocks-view : {A : Type 0} (g : ℕ → Usart → Bool → List A) (s : List ℕ) (cs : List Call) → Throughout Acts s cs
+    → along (λ j s c. at_clocks g j (usart_of s) (clocks_of (effect s c).levels)) 0 s cs ≡ at_clocks g 0 (usart_of s) (view_of s cs)
+clocks-view g s cs =
+    view (λ j s c. at_clocks g j (usart_of s) (clocks_of (effect s c).levels)) (at_clocks g) (λ j u. refl) (clocks-append g)
+    (λ j s c a. events-are (λ ls es. at_clocks g j (usart_of s) (clocks_of ls) ≡ at_clocks g j (usart_of s) es) (λ ls. refl) (λ r v. refl) (λ r. refl) refl s c) 0 s cs

@@ -15,7 +15,7 @@ use Rattle.frame.specs.declared.format.Parity.TheVariants.{Even}
 use Rattle.usart.specs.Baud.{left_of}
 use Rattle.usart.specs.Line.{Sent, line_level}
 use Rattle.usart.specs.Receiver.{listened_of}
-use Rattle.usart.specs.Receiving.{LineOn, clean}
+use Rattle.usart.specs.Receiving.{LineOn}
 use Rattle.usart.specs.Sampler.{idle_of, cast_of, next_bit_of, shifted_of, tally_of, decided_of, voted_of, sampled_of, sampler_of}
 use Rattle.usart.specs.Sender.{stepped_of}
 use Rattle.usart.specs.Sending.{Sends}
@@ -133,7 +133,7 @@ record Found (u2x : Bool) (s : List ℕ) : Type 0 where
   valid : decode_of s ≡ Accepted (start u2x)
   only : throughout only s (calls u2x) ≡ true
   roomy : throughout roomy s (calls u2x) ≡ true
-  line : LineOn (level u2x) (813 * scale u2x) 100 (frames u2x) (start u2x).usart.format 0 (rxd_levels s (calls u2x))
+  line : LineOn (813 * scale u2x) 100 (frames u2x) (start u2x).usart.format 0 (rxd_levels s (calls u2x))
   same : serial_parts s (calls u2x) ≡ serial_parts s (quiet u2x)
 
 found : (u2x : Bool) → Found u2x (record_of (start u2x))
@@ -174,7 +174,7 @@ only_data u2x = only-all (record_of (start u2x)) (calls u2x) (found u2x).only
 
 -- every premise of demand 3 holds of it
 pub witness : (u2x : Bool) → Hears (813 * scale u2x) 100 (frames u2x) (start u2x) (record_of (start u2x)) (calls u2x)
-unfolding start level
+unfolding start
 witness u2x =
     let s = record_of (start u2x) in
     let cs = calls u2x in
@@ -187,7 +187,7 @@ witness u2x =
       none_waits = roomy-all s cs (found u2x).roomy;
     }
 
-pub witnessed : (u2x : Bool) → DeliveredBy clean (813 * scale u2x) 100 (frames u2x) (start u2x) (record_of (start u2x)) (calls u2x)
+pub witnessed : (u2x : Bool) → DeliveredBy (813 * scale u2x) 100 (frames u2x) (start u2x) (record_of (start u2x)) (calls u2x)
 witnessed u2x = receives (813 * scale u2x) 100 (frames u2x) (start u2x) (record_of (start u2x)) (calls u2x) (witness u2x)
 
 -- the same history is one of the sender's: it is given a byte in mid-frame

@@ -1,5 +1,6 @@
 pub mod Call
 pub mod Receiving
+pub mod NoisyReceiving
 pub mod Sending
 pub mod Serial
 pub mod Marked

@@ -1,13 +1,9 @@
--- Demand 3 (document 01, 'The line of demand 3', as M-103 of document 02 changes it, and with M-112's noise): what is
--- asked of the record, the calls and the line, and what comes of them (`Delivered` of the serial unit's, said of
--- these).
-use Rattle.std.specs.Prelude.{ℕ, Bool, List, [], ◌∷◌, ◌≡◌, eqb}
+-- Demand 3 (document 01, 'The line of demand 3', as M-103 of document 02 changes it): what is asked of the record, the
+-- calls and the line, and what comes of them (`Delivered` of the serial unit's, said of these).
+use Rattle.std.specs.Prelude.{ℕ, List, [], ◌∷◌, ◌≡◌, eqb}
 use Rattle.choice.specs.Bit.{bit_at}
 use Rattle.choice.specs.Pick.{pick}
-use Rattle.frame.specs.Format.{word_bits}
-use Rattle.usart.specs.Line.{Sent, line_level}
-use Rattle.usart.specs.Noise.{Noise, Allowed, noisy_level}
-use Rattle.usart.specs.Votes.{Cast, votes_of as votes_at}
+use Rattle.usart.specs.Line.{Sent}
 use Rattle.usart.specs.Receiving.{Ready, held_by, waiting_by, LineOn, Seen, Arrival, Delivered, NoneWaits as NoneWaitsAt, arrivals_of as arrivals_at}
 use Rattle.device.specs.Serial.{clocks_of}
 use Rattle.device.specs.declared.unit.Device.{Device}
@@ -20,24 +16,15 @@ use Rattle.history.specs.Call.{Call, reset, write, read, vector, pass, effect, a
 abbrev pub NoneWaits : List ℕ → List Call → Type 0
 NoneWaits s cs = Throughout (λ s c. NoneWaitsAt (usart_of s) (clocks_of (effect s c).levels)) s cs
 
--- the line fs, on a wire with the levels w, is what the clocks show to the device d of the record s, which is enabled,
--- idle, with the last sample high, nothing held, none waiting and no loss pending
-pub record HearsOn (w : ℕ → Bool) (P Q : ℕ) (fs : List Sent) (d : Device) (s : List ℕ) (cs : List Call) : Type 0 where
+-- the line fs is what the clocks show to the device d of the record s, which is enabled, idle, with the last sample
+-- high, nothing held, none waiting and no loss pending
+pub record Hears (P Q : ℕ) (fs : List Sent) (d : Device) (s : List ℕ) (cs : List Call) : Type 0 where
   pub valid : decode_of s ≡ Accepted d
   pub ready : Ready d.usart
   pub bytes : Bytes cs
   pub only_data : OnlyData s cs
-  pub line : LineOn w P Q fs d.usart.format d.usart.baud.ubrr (rxd_levels s cs)
+  pub line : LineOn P Q fs d.usart.format d.usart.baud.ubrr (rxd_levels s cs)
   pub none_waits : NoneWaits s cs
-
--- demand 3: the levels are the line's
-abbrev pub Hears : ℕ → ℕ → List Sent → Device → List ℕ → List Call → Type 0
-Hears P Q fs d s cs = HearsOn (line_level d.usart.format P Q fs) P Q fs d s cs
-
--- M-112: they are the line's but for noise, 'all other premises as they now stand'
-pub record HearsNoisy (noise : Noise) (P Q : ℕ) (fs : List Sent) (d : Device) (s : List ℕ) (cs : List Call) : Type 0 where
-  pub allowed : Allowed (word_bits d.usart.format) noise
-  pub hears : HearsOn (noisy_level d.usart.format d.usart.baud P Q noise fs) P Q fs d s cs
 
 -- what a read of UDR0 answers, and what UCSR0B and UCSR0A read, and the call for split votes answers, just before it
 abbrev pub seen_by : List ℕ → Seen
@@ -67,12 +54,8 @@ abbrev pub arrivals_of : List ℕ → List Call → List Arrival
 arrivals_of s cs = along (λ j s c. arrivals_at j (usart_of s) (clocks_of (effect s c).levels)) 0 s cs
 
 -- what comes of the calls on the record s of the device d: the frames read, then those held in the last record, then
--- one that still waits there, are the line's, seen so, in time
-abbrev pub DeliveredBy : (Sent → Seen) → ℕ → ℕ → List Sent → Device → List ℕ → List Call → Type 0
-DeliveredBy seen P Q fs d s cs =
+-- one that still waits there, are the line's, in time
+abbrev pub DeliveredBy : ℕ → ℕ → List Sent → Device → List ℕ → List Call → Type 0
+DeliveredBy P Q fs d s cs =
     let u = usart_of (final_record s cs) in
-    Delivered seen P Q fs d.usart.format (reads_of s cs) (held_by u) (waiting_by u) (arrivals_of s cs)
-
--- the votes that the receiver takes, in order
-abbrev pub votes_of : List ℕ → List Call → List Cast
-votes_of s cs = along (λ j s c. votes_at j (usart_of s) (clocks_of (effect s c).levels)) 0 s cs
+    Delivered P Q fs d.usart.format (reads_of s cs) (held_by u) (waiting_by u) (arrivals_of s cs)

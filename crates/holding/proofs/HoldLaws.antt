@@ -1,18 +1,16 @@
 -- Holds after each other are one hold, and no clocks change nothing.
 use Prim.Native.Nat.{ℕ, ◌+◌}
-use mathlib.Core.Bool.{Bool, true, false}
+use mathlib.Core.Bool.{true, false}
 use mathlib.Core.List.{List}
 use mathlib.Core.Path.{◌≡◌, refl, sym, ap, ◌∙◌}
 use lib.Dec.{ltb}
 use lib.ListN.{replicate}
-use Rattle.choice.specs.Pick.{pick}
 use Rattle.choice.proofs.Picks.{split}
-use Rattle.answer.specs.declared.Refusal.TheVariants.{Level}
 use Rattle.device.specs.Holding.{held_of, last_of, held_output}
 use Rattle.device.specs.Outcome.{read_answer_of, value_of}
 use Rattle.device.specs.Run.{ran_of, outputs_of}
 use Rattle.device.specs.declared.outcome.Reading.{Reading}
-use Rattle.device.specs.declared.outcome.Reading.TheVariants.{Done, Refused}
+use Rattle.device.specs.declared.outcome.Reading.TheVariants.{Done}
 use Rattle.device.specs.declared.unit.Device.{Device}
 use Rattle.device.proofs.HoldingLaws.{held-ran, held-last, held-add, held-output-add}
 use Rattle.device.proofs.ValidLaws.{valid-run}
@@ -21,7 +19,7 @@ use Rattle.record.specs.Kept.{kept_by_read}
 use Rattle.record.specs.declared.codec.Decoded.{Decoded}
 use Rattle.record.specs.declared.codec.Decoded.TheVariants.{Accepted, Refused as NoDevice}
 use Rattle.record.proofs.Round.{decode-record, decode-valid, record-decode}
-use Rattle.holding.specs.Hold.{hold_in, hold_on, hold_answer, hold_output, record_after_hold, Adds}
+use Rattle.holding.specs.Hold.{hold_in, hold_on, hold_output, record_after_hold, Adds}
 
 module _ (l : ℕ) where
   -- with a level byte that is none everything is refused

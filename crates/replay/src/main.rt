@@ -3,31 +3,26 @@
 #![tactic(auto)]
 
 use console::{MOST, read_file};
-use libc::STDOUT_FILENO;
 use playback::Outcome;
+use std::io;
 
-fn print_outcome(outcome: Outcome) {
+fn print_outcome(rt: &impl Print, outcome: Outcome) -> io::Result<()> {
     match outcome {
-        Outcome::Done => {
-            io::write_all(STDOUT_FILENO, b"ok\n");
-        }
+        Outcome::Done => println!(rt; "ok"),
         Outcome::Refused(r, line) => {
-            io::print_decimal(STDOUT_FILENO, r.number() as u64);
-            io::write_all(STDOUT_FILENO, b"\t");
-            io::print_decimal(STDOUT_FILENO, line as u64);
-            io::write_all(STDOUT_FILENO, b"\n");
+            let number = r.number();
+            println!(rt; "{number}\t{line}")
         }
     }
 }
 
-fn main() {
+fn main(rt: HostRuntime) -> io::Result<()> {
     let mut text = [0u8; MOST + 1];
-    let n = read_file(&mut text);
+    let n = read_file(&rt, &mut text);
     if n > MOST {
-        io::write_all(STDOUT_FILENO, b"long\n");
-        return;
+        return println!(rt; "long");
     }
     let got = playback::replay(&text[..n]);
     let outcome = got.outcome;
-    print_outcome(outcome);
+    print_outcome(&rt, outcome)
 }

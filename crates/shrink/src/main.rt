@@ -6,34 +6,31 @@
 ghost use Rattle.std.specs.Prelude.{◌≤◌, length};
 
 use console::{MOST, read_file};
-use libc::STDOUT_FILENO;
+use std::io;
 use trace::Filled;
 
-fn print_start(bytes: &[u8], n: usize)
+fn print_start(rt: &impl Print, bytes: &[u8], n: usize) -> io::Result<()>
     requires { n ≤ length bytes.now }
 {
-    io::write_all(STDOUT_FILENO, &bytes[..n]);
+    rt.write_all(&bytes[..n])
 }
 
-fn print_shrunk(text: &[u8], buffer: &mut [u8]) {
+fn print_shrunk(rt: &impl Print, text: &[u8], buffer: &mut [u8]) -> io::Result<()> {
     match trace::shrink(text, buffer) {
-        Filled::Text(n) => {
-            print_start(buffer, n);
-        }
+        Filled::Text(n) => print_start(rt, buffer, n),
         Filled::Refused(r) => {
-            io::print_decimal(STDOUT_FILENO, r.number() as u64);
-            io::write_all(STDOUT_FILENO, b"\n");
+            let number = r.number();
+            println!(rt; "{number}")
         }
     }
 }
 
-fn main() {
+fn main(rt: HostRuntime) -> io::Result<()> {
     let mut text = [0u8; MOST + 1];
-    let n = read_file(&mut text);
+    let n = read_file(&rt, &mut text);
     if n > MOST {
-        io::write_all(STDOUT_FILENO, b"long\n");
-        return;
+        return println!(rt; "long");
     }
     let mut buffer = [0u8; MOST];
-    print_shrunk(&text[..n], &mut buffer);
+    print_shrunk(&rt, &text[..n], &mut buffer)
 }

@@ -8,7 +8,7 @@ use native.Mathlib.Omega.{arith}
 use lib.ListN.{length}
 use Rattle.usart.specs.Unit.{clock_of, output_of}
 use Rattle.usart.specs.Event.{Event, clock, write, read, vector, next_of, final_of, OnlyData, at_clocks, levels_of}
-use Rattle.usart.specs.Receiving.{NoneWaits, reads_of}
+use Rattle.usart.specs.Receiving.{NoneWaits, reads_of, arrivals_of}
 use Rattle.usart.specs.Sending.{taken_of, outputs_of}
 use Rattle.usart.specs.declared.unit.Usart.{Usart}
 
@@ -49,15 +49,15 @@ outputs-append u (read r ∷ es) fs = outputs-append (next_of u (read r)) es fs
 outputs-append u (vector ∷ es) fs = outputs-append (next_of u vector) es fs
 
 -- the second part begins after as many clocks as the first has
-pub clocks-append : {A : Type 0} (g : ℕ → Usart → Bool → List A) (j : ℕ) (u : Usart) (es fs : List Event)
-    → at_clocks g j u (es ++ fs) ≡ at_clocks g j u es ++ at_clocks g (j + length (levels_of es)) (final_of u es) fs
-clocks-append g j u [] fs = ap (λ (n : ℕ). at_clocks g n u fs) (omega arith)
-clocks-append g j u (clock rxd ∷ es) fs =
+pub arrivals-append : (j : ℕ) (u : Usart) (es fs : List Event)
+    → arrivals_of j u (es ++ fs) ≡ arrivals_of j u es ++ arrivals_of (j + length (levels_of es)) (final_of u es) fs
+arrivals-append j u [] fs = ap (λ (n : ℕ). arrivals_of n u fs) (omega arith)
+arrivals-append j u (clock rxd ∷ es) fs =
     let e : j + suc (length (levels_of es)) ≡ suc j + length (levels_of es) = omega arith in
-    rw (clocks-append g (suc j) (clock_of u rxd) es fs, append_assoc, e)
-clocks-append g j u (write r v ∷ es) fs = clocks-append g j (next_of u (write r v)) es fs
-clocks-append g j u (read r ∷ es) fs = clocks-append g j (next_of u (read r)) es fs
-clocks-append g j u (vector ∷ es) fs = clocks-append g j (next_of u vector) es fs
+    rw (arrivals-append (suc j) (clock_of u rxd) es fs, append_assoc, e)
+arrivals-append j u (write r v ∷ es) fs = arrivals-append j (next_of u (write r v)) es fs
+arrivals-append j u (read r ∷ es) fs = arrivals-append j (next_of u (read r)) es fs
+arrivals-append j u (vector ∷ es) fs = arrivals-append j (next_of u vector) es fs
 
 pub taken-append : (j : ℕ) (u : Usart) (es fs : List Event)
     → taken_of j u (es ++ fs) ≡ taken_of j u es ++ taken_of (j + length (outputs_of u es)) (final_of u es) fs
@@ -68,3 +68,14 @@ taken-append j u (clock rxd ∷ es) fs =
 taken-append j u (write r v ∷ es) fs = rw (taken-append j (next_of u (write r v)) es fs, append_assoc)
 taken-append j u (read r ∷ es) fs = taken-append j (next_of u (read r)) es fs
 taken-append j u (vector ∷ es) fs = taken-append j (next_of u vector) es fs
+
+-- the second part begins after as many clocks as the first has
+pub clocks-append : {A : Type 0} (g : ℕ → Usart → Bool → List A) (j : ℕ) (u : Usart) (es fs : List Event)
+    → at_clocks g j u (es ++ fs) ≡ at_clocks g j u es ++ at_clocks g (j + length (levels_of es)) (final_of u es) fs
+clocks-append g j u [] fs = ap (λ (n : ℕ). at_clocks g n u fs) (omega arith)
+clocks-append g j u (clock rxd ∷ es) fs =
+    let e : j + suc (length (levels_of es)) ≡ suc j + length (levels_of es) = omega arith in
+    rw (clocks-append g (suc j) (clock_of u rxd) es fs, append_assoc, e)
+clocks-append g j u (write r v ∷ es) fs = clocks-append g j (next_of u (write r v)) es fs
+clocks-append g j u (read r ∷ es) fs = clocks-append g j (next_of u (read r)) es fs
+clocks-append g j u (vector ∷ es) fs = clocks-append g j (next_of u vector) es fs

@@ -1,15 +1,14 @@
 -- What the statements say of closed lists, by computing alone and before any law is used: M8, M10, demand 3 of five
 -- frames of which two wait, the split votes of two frames with noise, and the sender's line of two bytes. A wrong
 -- program that changes a definition is refused here first, by the value that it gets wrong.
-use Prim.Native.Nat.{ℕ, zero, suc}
-use mathlib.Core.List.{List, [], ◌∷◌, ◌++◌, map}
+use Prim.Native.Nat.{ℕ}
+use mathlib.Core.List.{[], ◌∷◌, map}
 use mathlib.Core.Path.{◌≡◌, refl, sym}
 use lib.Dec.{lit≤, lit<}
 use lib.ListN.{length}
-use Rattle.choice.specs.Pick.{pick}
 use Rattle.frame.specs.Parity.{sum_of_bits}
 use Rattle.frame.specs.Word.{frame_bit, parity_error}
-use Rattle.usart.specs.Baud.{left_of, tick_from}
+use Rattle.usart.specs.Baud.{left_of}
 use Rattle.usart.specs.Sender.{stepped_of}
 use Rattle.usart.specs.Sampler.{idle_of, cast_of, next_bit_of, shifted_of, tally_of, decided_of, voted_of, sampled_of, sampler_of}
 use Rattle.usart.specs.Receiver.{listened_of, enabled_of}
@@ -18,14 +17,12 @@ use Rattle.usart.specs.Settings.{size_of, parity_of}
 use Rattle.usart.specs.Write.{formatted_of, txc_cleared, write_a, write_c, is_reserved_c, sized_c, timed_of, transmitted_of, vector_of}
 use Rattle.usart.specs.Event.{final_of}
 use Rattle.usart.specs.Line.{line_level}
-use Rattle.usart.specs.Noise.{is_hit_below, is_turned}
 use Rattle.usart.specs.Receiving.{held_by, waiting_by, seen_in, clean, reads_of, arrivals_of, Delivered}
-use Rattle.usart.specs.Sending.{waiting, frames_of, taken_of, not_before, data_in, outputs_of, Sends}
+use Rattle.usart.specs.Sending.{waiting, tick_from, frames_of, taken_of, not_before, data_in, outputs_of, Sends}
 use Rattle.usart.specs.Marked.{sending, status_bits, zeros, M8, four_frames, line, read_at, M10}
 use Rattle.usart.specs.Marked.{listening as listening10}
 use Rattle.usart.proofs.ClosedLists.{driven, driven-drives}
-use Rattle.usart.proofs.Examples.{listening, frames, level, run, received, loaded, clocks, handed}
-use Rattle.usart.proofs.Examples.{slower, two_frames, first_hits, second_hits, hit_of, noise, noisy, noisy_received}
+use Rattle.usart.proofs.Examples.{listening, frames, level, run, received, is_hit, hit_clocks, noisy_run, noisy, loaded, clocks, handed}
 
 pub m8 : (v : ℕ) → M8 v
 unfolding sending status_bits zeros left_of stepped_of listened_of enabled_of is_busy clock_of is_driven output_of formatted_of size_of transmitted_of frame_bit sum_of_bits
@@ -35,7 +32,7 @@ pub m10 : M10
 unfolding four_frames line read_at listening10 write_a txc_cleared line_level frame_bit sum_of_bits left_of stepped_of idle_of cast_of next_bit_of shifted_of tally_of decided_of voted_of sampled_of sampler_of listened_of enabled_of is_busy clock_of formatted_of size_of parity_error
 m10 = record { in_time = refl; saved = refl; late = refl; unread = refl }
 
-pub delivered : Delivered clean 813 100 frames listening.format (reads_of listening received) (held_by (final_of listening received))
+pub delivered : Delivered 813 100 frames listening.format (reads_of listening received) (held_by (final_of listening received))
     (waiting_by (final_of listening received))
     (arrivals_of 0 listening received)
 unfolding listening frames level run received line_level frame_bit sum_of_bits left_of stepped_of idle_of cast_of next_bit_of shifted_of tally_of decided_of voted_of sampled_of sampler_of listened_of is_busy clock_of size_of parity_of formatted_of write_c is_reserved_c sized_c timed_of transmitted_of vector_of parity_error
@@ -61,22 +58,11 @@ pub still-waits : map seen_in (waiting_by (final_of listening received)) ≡ cle
 unfolding listening frames level run received line_level frame_bit sum_of_bits left_of stepped_of idle_of cast_of next_bit_of shifted_of tally_of decided_of voted_of sampled_of sampler_of listened_of is_busy clock_of size_of parity_of formatted_of write_c is_reserved_c sized_c timed_of transmitted_of vector_of parity_error
 still-waits = refl
 
--- M-101, M-112: each frame has the count of its own split votes, of start, data, parity and stop bit
-pub counted : reads_of slower noisy_received ++ map seen_in (held_by (final_of slower noisy_received))
-    ≡ record { value = 21; rxb8 = 0; fe = 0; dor = 0; upe = 0; splits = 4 } ∷ record { value = 10; rxb8 = 0; fe = 0; dor = 0; upe = 0; splits = 5 } ∷ []
-unfolding listening slower two_frames first_hits second_hits hit_of noise noisy noisy_received run is_hit_below is_turned tick_from line_level frame_bit sum_of_bits left_of stepped_of idle_of cast_of next_bit_of shifted_of tally_of decided_of voted_of sampled_of sampler_of listened_of is_busy clock_of parity_error
+-- M-101: each frame has the count of its own split votes, of start, data, parity and stop bit
+pub counted : map seen_in (held_by (final_of listening noisy))
+    ≡ record { value = 21; rxb8 = 0; fe = 0; dor = 0; upe = 0; splits = 4 } ∷ record { value = 10; rxb8 = 0; fe = 0; dor = 0; upe = 0; splits = 1 } ∷ []
+unfolding listening frames level is_hit hit_clocks noisy_run noisy line_level frame_bit sum_of_bits left_of stepped_of idle_of cast_of next_bit_of shifted_of tally_of decided_of voted_of sampled_of sampler_of listened_of clock_of parity_error
 counted = refl
-
--- the clocks below k at which noise turns over the level
-unfoldable turned_below : ℕ → List ℕ
-turned_below zero = []
-turned_below (suc j) = turned_below j ++ pick (is_turned slower.format slower.baud noise two_frames j) (j ∷ []) []
-
--- the frames' first ticks are at clocks 4 and 202, a bit is 24 clocks, and its votes come 9, 12 and 15 after its first
--- sample: 4 + 9, 4 + 3·24 + 15, 4 + 6·24 + 12, 4 + 7·24 + 12; 202 + 15, 202 + 24 + 9, 202 + 4·24 + 12, and so on
-turned : turned_below 400 ≡ 13 ∷ 91 ∷ 160 ∷ 184 ∷ 217 ∷ 235 ∷ 310 ∷ 355 ∷ 379 ∷ []
-unfolding turned_below listening slower two_frames first_hits second_hits hit_of noise is_hit_below is_turned tick_from
-turned = refl
 
 -- what the list's end leaves in the buffer
 remains : map data_in (not_before (length (outputs_of loaded handed)) (frames_of loaded (taken_of 0 loaded handed))) ≡ waiting (final_of loaded handed).sender.buffer

@@ -14,7 +14,7 @@ use Rattle.choice.proofs.Digits.{digit-le}
 use Rattle.frame.specs.Format.{first_vote, word_bits}
 use Rattle.frame.specs.declared.format.Format.{Format}
 use Rattle.frame.proofs.FormatLaws.{samples-half, first-vote-range}
-use Rattle.usart.specs.Baud.{tick_from}
+use Rattle.usart.specs.Sending.{tick_from}
 use Rattle.usart.specs.Line.{Sent}
 use Rattle.usart.specs.Noise.{Noise, Allowed, vote_clock, is_hit, is_hit_below, is_turned, bits_hit, no_noise}
 use Rattle.usart.specs.declared.baud.Baud.{Baud}

@@ -16,10 +16,10 @@ use Rattle.usart.specs.Event.{Event}
 use Rattle.usart.specs.Line.{Sent}
 use Rattle.usart.specs.Noise.{Noise, Allowed, vote_clock, is_hit, is_hit_below, is_turned, turn}
 use Rattle.usart.specs.Votes.{Cast, bit_of, vote_on, votes_of, votes_from, votes_on, Each, Some, VotesTimed, HitAt, HitsTaken}
-use Rattle.usart.specs.Receiving.{HearsNoisy}
+use Rattle.usart.specs.NoisyReceiving.{HearsNoisy}
 use Rattle.usart.specs.declared.baud.Baud.{Baud}
 use Rattle.usart.specs.declared.unit.Usart.{Usart}
-use Rattle.usart.proofs.ReceivingLine.{takes-votes}
+use Rattle.usart.proofs.NoisyLine.{takes-votes}
 
 each_append : {A : Type 0} (F : A → Type 0) (xs ys : List A) → Each F xs → Each F ys → Each F (xs ++ ys)
 each_append F [] ys h k = k

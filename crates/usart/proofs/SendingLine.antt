@@ -17,14 +17,13 @@ use Rattle.frame.specs.Word.{data_of, word_of, frame_bit}
 use Rattle.frame.specs.declared.format.Format.{Format}
 use Rattle.frame.proofs.FormatLaws.{samples-half, first-vote-range, stop-bits-range}
 use Rattle.frame.proofs.WordLaws.{stop-bit}
-use Rattle.usart.specs.Baud.{tick_from}
 use Rattle.usart.specs.Sender.{is_vacant, buffer_of, begun, moved_from, stepped_of, placed, shifted_on, sender_of, txd_of}
 use Rattle.usart.specs.Unit.{bit_clocks, clock_of, is_driven, output_of, txc_requested}
 use Rattle.usart.specs.Write.{transmitted_of, write_of, vector_of}
 use Rattle.usart.specs.Event.{Event, clock, write, read, vector, settled, next_of, final_of, is_refused, is_udr0, OnlyData, levels_of}
 use Rattle.usart.specs.Line.{Sent, line_level, Fits}
 use Rattle.usart.specs.Valid.{ValidBuffer}
-use Rattle.usart.specs.Sending.{MaySend, waiting, accepted_by, Taken, taken_at, taken_of, later_of, frames_from, frames_of, not_before, outputs_of, Drives, data_in, Sends}
+use Rattle.usart.specs.Sending.{MaySend, waiting, accepted_by, Taken, taken_at, taken_of, tick_from, later_of, frames_from, frames_of, not_before, outputs_of, Drives, data_in, Sends}
 use Rattle.usart.specs.declared.sender.Buffer.{Buffer}
 use Rattle.usart.specs.declared.sender.Buffer.TheVariants.{Vacant, Full}
 use Rattle.usart.specs.declared.sender.Transmission.{Transmission}

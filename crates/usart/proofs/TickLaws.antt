@@ -10,9 +10,9 @@ use native.Mathlib.Omega.{arith}
 use borrow.Author.Tests.{eq-eqb, ne_eqb}
 use Rattle.frame.specs.declared.format.Size.TheVariants.{Five}
 use Rattle.frame.specs.declared.format.Parity.TheVariants.{Off}
-use Rattle.usart.specs.Baud.{ticks, left_of, baud_of, tick_from}
+use Rattle.usart.specs.Baud.{ticks, left_of, baud_of}
 use Rattle.usart.specs.Receiver.{stopped}
-use Rattle.usart.specs.Sending.{taken_at, frames_of}
+use Rattle.usart.specs.Sending.{taken_at, tick_from, frames_of}
 use Rattle.usart.specs.declared.baud.Baud.{Baud}
 use Rattle.usart.specs.declared.sender.Buffer.TheVariants.{Full}
 use Rattle.usart.specs.declared.sender.ShiftRegister.TheVariants.{Resting}

@@ -12,7 +12,7 @@ use Rattle.choice.specs.Pick.{pick}
 use Rattle.frame.specs.Format.{first_vote, word_bits}
 use Rattle.frame.specs.declared.format.Format.{Format}
 use Rattle.frame.proofs.FormatLaws.{first-vote-range}
-use Rattle.usart.specs.Baud.{tick_from}
+use Rattle.usart.specs.Sending.{tick_from}
 use Rattle.usart.specs.Line.{Sent}
 use Rattle.usart.specs.Noise.{Noise, Allowed, vote_clock, noisy_level}
 use Rattle.usart.specs.Votes.{Cast, is_vote, cast_in, vote_on, votes_from, votes_on}
@@ -25,7 +25,7 @@ use Rattle.usart.specs.declared.sampler.Outcome.TheVariants.{Nothing, Started, C
 use Rattle.usart.proofs.Rates.{Rates}
 use Rattle.usart.proofs.LineLaws.{From}
 use Rattle.usart.proofs.NoiseLaws.{vote-clock-half}
-use Rattle.usart.proofs.OneTick.{InStep, Inv, GoodFor, vote-level}
+use Rattle.usart.proofs.NoisyTick.{InStep, Inv, GoodFor, vote-level}
 use Rattle.usart.proofs.PositionLaws.{place-unique, same-ticks}
 use Rattle.usart.proofs.TickLaws.{tick-from}
 

@@ -1,17 +1,13 @@
 -- The line theorems are not empty: closed lists that meet every premise. Demand 3's has five frames, at unequal
 -- crystals, with reads, a write of UDR0, refused accesses and a vector among the clocks; one frame waits until a read
--- moves it in, one still waits at the end. M-112's has two frames at UBRR 2, with noise in start, data, parity and stop
--- bits of both. The sender's has a byte in the buffer at first and one that is written. What comes of them is computed
--- in `Cases.antt`.
-use Prim.Native.Nat.{ℕ, zero, suc, ◌≤◌}
-use mathlib.Core.List.{List, [], ◌∷◌}
+-- moves it in, one still waits at the end. The sender's has a byte in the buffer at first and one that is written. What
+-- comes of them is computed in `Cases.antt`.
 use mathlib.Core.Path.{refl}
-use native.Mathlib.Omega.{arith}
-use lib.Dec.{eqb, lit≤, lit<}
-use Rattle.choice.proofs.Picks.{clash, pick_ind}
+use lib.Dec.{lit≤, lit<}
+use Rattle.choice.proofs.Picks.{clash}
 use Rattle.frame.specs.Parity.{sum_of_bits}
 use Rattle.frame.specs.Word.{frame_bit, parity_error}
-use Rattle.usart.specs.Baud.{left_of, tick_from}
+use Rattle.usart.specs.Baud.{left_of}
 use Rattle.usart.specs.Sender.{stepped_of}
 use Rattle.usart.specs.Sampler.{idle_of, cast_of, next_bit_of, shifted_of, tally_of, decided_of, voted_of, sampled_of, sampler_of}
 use Rattle.usart.specs.Receiver.{listened_of}
@@ -20,13 +16,10 @@ use Rattle.usart.specs.Settings.{size_of, parity_of}
 use Rattle.usart.specs.Write.{formatted_of, write_c, is_reserved_c, sized_c, timed_of, transmitted_of, vector_of}
 use Rattle.usart.specs.Event.{levels_of}
 use Rattle.usart.specs.Line.{line_level}
-use Rattle.usart.specs.Noise.{Allowed, is_hit_below, is_turned}
-use Rattle.usart.specs.Votes.{Each}
-use Rattle.usart.specs.Receiving.{Hears, HearsNoisy}
+use Rattle.usart.specs.Receiving.{Hears}
 use Rattle.usart.specs.Sending.{MaySend}
 use Rattle.usart.proofs.ClosedLists.{bool-eqb, shown, shown-shows, none, room, none_waits, none-waits}
 use Rattle.usart.proofs.Examples.{listening, frames, level, run, received, loaded, clocks, handed}
-use Rattle.usart.proofs.Examples.{slower, two_frames, first_hits, second_hits, hit_of, noise, noisy, noisy_received}
 
 pub witness : Hears 813 100 frames listening received
 unfolding listening frames level run received shown none_waits room none bool-eqb line_level frame_bit sum_of_bits left_of stepped_of idle_of cast_of next_bit_of shifted_of tally_of decided_of voted_of sampled_of sampler_of listened_of is_busy clock_of size_of parity_of formatted_of write_c is_reserved_c sized_c timed_of transmitted_of vector_of parity_error
@@ -43,50 +36,6 @@ witness = record {
     ended = lit≤ tt;
   };
   none_waits = none-waits listening received refl;
-}
-
--- no hit vote of a list is above n
-abbrev AtMost : ℕ → List ℕ → Type 0
-AtMost n vs = Each (λ v. v ≤ n) vs
-
-hit-le : (n : ℕ) (vs : List ℕ) → AtMost n vs → (b : ℕ) → hit_of vs b ≤ n
-unfolding hit_of
-hit-le n [] h b = omega arith
-hit-le n (v ∷ vs) h zero = h.0
-hit-le n (v ∷ vs) h (suc b) = hit-le n vs h.1 b
-
-pub allowed : Allowed 6 noise
-unfolding noise first_hits second_hits hit_of
-allowed = record {
-  votes = λ n b.
-      pick_ind (λ (v : ℕ). v ≤ 3) (eqb n 3) _ _
-      (λ _. hit-le 3 first_hits (lit≤ tt, (lit≤ tt, (lit≤ tt, (lit≤ tt, (lit≤ tt, (lit≤ tt, (lit≤ tt, (lit≤ tt, tt)))))))) b)
-      (λ _. pick_ind (λ (v : ℕ). v ≤ 3) (eqb n 200) _ _
-      (λ _. hit-le 3 second_hits (lit≤ tt, (lit≤ tt, (lit≤ tt, (lit≤ tt, (lit≤ tt, (lit≤ tt, (lit≤ tt, (lit≤ tt, tt)))))))) b) (λ _. lit≤ tt));
-  stop = λ n.
-      let two : noise n 7 ≤ 2 = pick_ind (λ (v : ℕ). v ≤ 2) (eqb n 3) _ _ (λ _. lit≤ tt)
-      (λ _. pick_ind (λ (v : ℕ). v ≤ 2) (eqb n 200) _ _ (λ _. lit≤ tt) (λ _. lit≤ tt)) in
-      omega arith;
-}
-
-pub noisy-witness : HearsNoisy noise 2440 100 two_frames slower noisy_received
-unfolding listening slower two_frames first_hits second_hits hit_of noise noisy noisy_received run is_hit_below is_turned tick_from shown none_waits room none bool-eqb line_level frame_bit sum_of_bits left_of stepped_of idle_of cast_of next_bit_of shifted_of tally_of decided_of voted_of sampled_of sampler_of listened_of is_busy clock_of parity_error
-noisy-witness = record {
-  allowed = allowed;
-  hears = record {
-    ready = record { enabled = refl; idle = refl; empty = refl; no_loss = refl; counter = lit≤ tt };
-    only_data = tt;
-    line = record {
-      p1 = lit≤ tt;
-      q1 = lit≤ tt;
-      within = (lit≤ tt, lit≤ tt);
-      fits = (lit< tt, (lit< tt, tt));
-      spaced = (lit≤ tt, (tt, tt));
-      shows = shown-shows noisy 0 (levels_of noisy_received) refl;
-      ended = lit≤ tt;
-    };
-    none_waits = none-waits slower noisy_received refl;
-  };
 }
 
 -- an accepted write of UDR0 and an ignored one

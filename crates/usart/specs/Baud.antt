@@ -1,5 +1,5 @@
 -- The baud clock (document 01, 'Baud clock, sender').
-use Rattle.std.specs.Prelude.{ℕ, zero, suc, ◌+◌, ◌-◌, ◌*◌, ◌/◌, Bool, eqb}
+use Rattle.std.specs.Prelude.{ℕ, zero, suc, ◌+◌, ◌-◌, ◌*◌, Bool, eqb}
 use Rattle.choice.specs.Pick.{pick, digit}
 use Rattle.usart.specs.declared.baud.Clocks.{Clocks}
 use Rattle.usart.specs.declared.baud.Baud.{Baud}
@@ -23,10 +23,6 @@ ticks_in b (suc n) = digit (ticks b) + ticks_in (baud_of b) n
 -- ticks are UBRR + 1 clocks apart: the clocks from one on that n of them take
 abbrev pub clocks_for : Baud → ℕ → ℕ
 clocks_for b n = n * (b.ubrr + 1)
-
--- the first tick at clock j or later, clock 0 finding the counter so: the first of all comes when it has run down
-unfoldable pub tick_from : Baud → ℕ → ℕ
-tick_from b j = b.left.0 + clocks_for b ((j - b.left.0 + b.ubrr) / (b.ubrr + 1))
 
 -- UBRR0L: stores and loads the baud counter with all of UBRR
 abbrev pub loaded_baud : ℕ → Baud

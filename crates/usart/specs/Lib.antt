@@ -14,6 +14,7 @@ pub mod Limit
 pub mod Noise
 pub mod Votes
 pub mod Receiving
+pub mod NoisyReceiving
 pub mod Sending
 pub mod Marked
 pub mod Bit

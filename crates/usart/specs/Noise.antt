@@ -6,7 +6,8 @@ use Rattle.std.specs.Prelude.{ℕ, zero, suc, ◌+◌, ◌-◌, ◌*◌, ◌≤�
 use Rattle.choice.specs.Pick.{pick, digit}
 use Rattle.frame.specs.Format.{samples, first_vote, word_bits}
 use Rattle.frame.specs.declared.format.Format.{Format}
-use Rattle.usart.specs.Baud.{tick_from, clocks_for}
+use Rattle.usart.specs.Baud.{clocks_for}
+use Rattle.usart.specs.Sending.{tick_from}
 use Rattle.usart.specs.Line.{Sent, line_level}
 use Rattle.usart.specs.declared.baud.Baud.{Baud}
 

@@ -1,6 +1,6 @@
--- Demand 3 at the serial unit, as M-103 of document 02 changes it, and with M-112's noise: what is asked of the unit,
--- the list and the line, and what comes of them.
-use Rattle.std.specs.Prelude.{ℕ, ◌+◌, ◌-◌, ◌*◌, ◌%◌, ◌≤◌, ◌<◌, Bool, true, false, List, [], ◌∷◌, ◌++◌, map, ◌≡◌, eqb, ltb, length}
+-- Demand 3 at the serial unit, as M-103 of document 02 changes it: what is asked of the unit, the list and the line,
+-- and what comes of them.
+use Rattle.std.specs.Prelude.{ℕ, suc, ◌+◌, ◌-◌, ◌*◌, ◌%◌, ◌≤◌, ◌<◌, Bool, true, false, List, [], ◌∷◌, ◌++◌, map, ◌≡◌, eqb, ltb, length}
 use Rattle.choice.specs.Bit.{bit_at}
 use Rattle.choice.specs.Pick.{pick, digit}
 use Rattle.frame.specs.Format.{word_bits}
@@ -11,9 +11,8 @@ use Rattle.usart.specs.Sampler.{sampler_of}
 use Rattle.usart.specs.Queue.{held_in, waiting_in, kept_in}
 use Rattle.usart.specs.Unit.{bit_length, clock_of}
 use Rattle.usart.specs.Read.{read_of, split_votes}
-use Rattle.usart.specs.Event.{Event, clock, write, read, vector, next_of, is_udr0, OnlyData, at_clocks, levels_of}
+use Rattle.usart.specs.Event.{Event, clock, write, read, vector, next_of, is_udr0, OnlyData, levels_of}
 use Rattle.usart.specs.Line.{Sent, line_level, Fits, Spaced, EndedBy, Shows}
-use Rattle.usart.specs.Noise.{Noise, Allowed, noisy_level, bits_hit}
 use Rattle.usart.specs.declared.sampler.Sampler.TheVariants.{Idle}
 use Rattle.usart.specs.declared.sampler.Outcome.{Outcome}
 use Rattle.usart.specs.declared.sampler.Outcome.TheVariants.{Nothing, Started, Complete}
@@ -57,32 +56,23 @@ NoneWaits u (write r v ∷ es) = NoneWaits (next_of u (write r v)) es
 NoneWaits u (read r ∷ es) = NoneWaits (next_of u (read r)) es
 NoneWaits u (vector ∷ es) = NoneWaits (next_of u vector) es
 
--- a wire with the levels w has the line of the frames fs, of bits P/Q clocks long, for a receiver of this format and
--- UBRR, whose bit, S·(UBRR + 1) clocks, differs within the recommended limit; and w is what the levels show
-pub record LineOn (w : ℕ → Bool) (P Q : ℕ) (fs : List Sent) (f : Format) (ubrr : ℕ) (levels : List Bool) : Type 0 where
+-- the line of the frames fs, of bits P/Q clocks long, is what the levels show a receiver of this format and UBRR, whose
+-- bit, S·(UBRR + 1) clocks, differs within the recommended limit
+pub record LineOn (P Q : ℕ) (fs : List Sent) (f : Format) (ubrr : ℕ) (levels : List Bool) : Type 0 where
   pub p1 : 1 ≤ P
   pub q1 : 1 ≤ Q
   pub within : Within (limit f.u2x (word_bits f)) (bit_length f ubrr * Q) P
   pub fits : Fits f fs
   pub spaced : Spaced (word_bits f) P Q fs
-  pub shows : Shows w 0 levels
+  pub shows : Shows (line_level f P Q fs) 0 levels
   pub ended : EndedBy (word_bits f) P Q (length levels) fs
 
--- the unit's list of events shows it this line, on a wire with the levels w
-pub record HearsOn (w : ℕ → Bool) (P Q : ℕ) (fs : List Sent) (u : Usart) (es : List Event) : Type 0 where
+-- the unit's list of events shows it this line
+pub record Hears (P Q : ℕ) (fs : List Sent) (u : Usart) (es : List Event) : Type 0 where
   pub ready : Ready u
   pub only_data : OnlyData u es
-  pub line : LineOn w P Q fs u.format u.baud.ubrr (levels_of es)
+  pub line : LineOn P Q fs u.format u.baud.ubrr (levels_of es)
   pub none_waits : NoneWaits u es
-
--- demand 3: the levels are the line's
-abbrev pub Hears : ℕ → ℕ → List Sent → Usart → List Event → Type 0
-Hears P Q fs u es = HearsOn (line_level u.format P Q fs) P Q fs u es
-
--- M-112: they are the line's but for noise, 'all other premises as they now stand'
-pub record HearsNoisy (noise : Noise) (P Q : ℕ) (fs : List Sent) (u : Usart) (es : List Event) : Type 0 where
-  pub allowed : Allowed (word_bits u.format) noise
-  pub hears : HearsOn (noisy_level u.format u.baud P Q noise fs) P Q fs u es
 
 -- a frame as firmware and rig see it: UDR0, RXB8, FE, DOR and UPE, and its split votes
 pub record Seen : Type 0 where
@@ -127,17 +117,10 @@ seen_in f = record {
   splits = f.splits;
 }
 
--- data bits 0 to 7, the ninth, 0 where there is none, FE, DOR and UPE clear, and so many votes split
-abbrev pub clean_with : ℕ → Sent → Seen
-clean_with n s = record { value = s.«data» % 256; rxb8 = bit_at s.«data» 8; fe = 0; dor = 0; upe = 0; splits = n }
-
--- M-101: 'that count is 0 for every frame'
+-- data bits 0 to 7, the ninth, 0 where there is none, FE, DOR and UPE clear, and (M-101: 'that count is 0 for every
+-- frame') no vote split
 abbrev pub clean : Sent → Seen
-clean s = clean_with 0 s
-
--- M-112: 'M-101's count is then the number of bits so hit', from the start bit to the stop bit
-abbrev pub heard : Format → Noise → Sent → Seen
-heard f noise s = clean_with (bits_hit (noise s.start) (word_bits f + 2)) s
+clean s = record { value = s.«data» % 256; rxb8 = bit_at s.«data» 8; fe = 0; dor = 0; upe = 0; splits = 0 }
 
 -- a frame that completes at a clock: whether a place was free just before it, and whether, after it, one more is held,
 -- or one more waits
@@ -162,12 +145,13 @@ arrived_in j p q =
 abbrev pub arrived_by : ℕ → Usart → Usart → List Arrival
 arrived_by j u v = arrived_in j u.receiver.queue.places v.receiver.queue.places
 
-abbrev pub arrives_at : ℕ → Usart → Bool → List Arrival
-arrives_at j u rxd = arrived_by j u (clock_of u rxd)
-
 -- the frames that complete, in order, the first clock of the list being j
 abbrev pub arrivals_of : ℕ → Usart → List Event → List Arrival
-arrivals_of j u es = at_clocks arrives_at j u es
+arrivals_of j u [] = []
+arrivals_of j u (clock rxd ∷ es) = arrived_by j u (clock_of u rxd) ++ arrivals_of (suc j) (clock_of u rxd) es
+arrivals_of j u (write r v ∷ es) = arrivals_of j (next_of u (write r v)) es
+arrivals_of j u (read r ∷ es) = arrivals_of j (next_of u (read r)) es
+arrivals_of j u (vector ∷ es) = arrivals_of j (next_of u vector) es
 
 -- the frame s completes at a clock n+t with t·Q < (D+2)·P, before its first stop bit has ended. It is held then if it
 -- finds a place free, else it waits then
@@ -184,7 +168,7 @@ InTime D P Q (a ∷ bs) [] = ⊥
 InTime D P Q (a ∷ bs) (s ∷ ss) = Arrives D P Q a s × InTime D P Q bs ss
 
 -- the frames read, in order, then those held at the end, oldest first, then one that still waits, are the line's, each
--- once, seen so, and each in time
-pub record Delivered (seen : Sent → Seen) (P Q : ℕ) (fs : List Sent) (f : Format) (reads : List Seen) (held waiting : List Frame) (arrivals : List Arrival) : Type 0 where
-  pub frames : reads ++ map seen_in (held ++ waiting) ≡ map seen fs
+-- once, and each in time
+pub record Delivered (P Q : ℕ) (fs : List Sent) (f : Format) (reads : List Seen) (held waiting : List Frame) (arrivals : List Arrival) : Type 0 where
+  pub frames : reads ++ map seen_in (held ++ waiting) ≡ map clean fs
   pub in_time : InTime (word_bits f) P Q arrivals fs

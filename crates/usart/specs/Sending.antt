@@ -1,14 +1,14 @@
 -- The sender's line at the serial unit.
-use Rattle.std.specs.Prelude.{ℕ, suc, ◌+◌, ◌-◌, ◌*◌, Bool, true, List, [], ◌∷◌, ◌++◌, map, ◌≡◌, leb, length}
+use Rattle.std.specs.Prelude.{ℕ, suc, ◌+◌, ◌-◌, ◌*◌, ◌/◌, Bool, true, List, [], ◌∷◌, ◌++◌, map, ◌≡◌, leb, length}
 use Rattle.choice.specs.Pick.{pick, digit}
 use Rattle.frame.specs.Format.{word_bits, last_bit}
 use Rattle.frame.specs.Word.{data_of}
-use Rattle.usart.specs.Baud.{tick_from}
 use Rattle.usart.specs.Sender.{is_vacant}
 use Rattle.usart.specs.Unit.{bit_clocks, clock_of, output_of}
 use Rattle.usart.specs.Event.{Event, clock, write, read, vector, next_of, is_udr0, OnlyData}
 use Rattle.usart.specs.Line.{Sent, line_level, Fits, Spaced}
 use Rattle.usart.specs.Valid.{ValidBuffer}
+use Rattle.usart.specs.declared.baud.Baud.{Baud}
 use Rattle.usart.specs.declared.sender.Buffer.{Buffer}
 use Rattle.usart.specs.declared.sender.Buffer.TheVariants.{Vacant, Full}
 use Rattle.usart.specs.declared.sender.ShiftRegister.TheVariants.{Resting}
@@ -54,6 +54,11 @@ taken_of j u (clock rxd ∷ es) = taken_of (suc j) (clock_of u rxd) es
 taken_of j u (write r v ∷ es) = map (taken_at j) (accepted_by u (write r v)) ++ taken_of j (next_of u (write r v)) es
 taken_of j u (read r ∷ es) = taken_of j (next_of u (read r)) es
 taken_of j u (vector ∷ es) = taken_of j (next_of u vector) es
+
+-- the first tick at clock j or later: ticks are UBRR + 1 clocks apart, the first when the counter, as it is at first,
+-- has run down
+unfoldable pub tick_from : Baud → ℕ → ℕ
+tick_from b j = b.left.0 + (j - b.left.0 + b.ubrr) / (b.ubrr + 1) * (b.ubrr + 1)
 
 -- clocks a frame, with its last stop bit
 abbrev pub frame_clocks : Usart → ℕ

@@ -15,7 +15,7 @@ use Rattle.device.specs.Unit.{reset_device, clock_of, output_of, clocked_of}
 use Rattle.device.proofs.CountingLaws.{counted-clock, counted-output}
 use Rattle.answer.specs.declared.Refusal.TheVariants.{Record}
 use Rattle.device.specs.declared.outcome.Written.{Written}
-use Rattle.device.specs.declared.outcome.Written.TheVariants.{Done, Refused}
+use Rattle.device.specs.declared.outcome.Written.TheVariants.{Done}
 use Rattle.device.specs.declared.outcome.Reading.{Reading}
 use Rattle.device.specs.declared.unit.Device.{Device}
 use Rattle.device.specs.declared.unit.Clocked.{Clocked}
