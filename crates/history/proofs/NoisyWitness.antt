@@ -23,7 +23,7 @@ use Rattle.usart.specs.Write.{formatted_of, timed_of}
 use Rattle.usart.proofs.ClosedLists.{bool-eqb, shown, shown-shows, none, room, none_waits}
 use Rattle.usart.proofs.Examples.{listening}
 use Rattle.usart.proofs.NoisyExamples.{slower, two_frames, first_hits, second_hits, hit_of, noise, noisy}
-use Rattle.usart.proofs.Witness.{allowed}
+use Rattle.usart.proofs.NoisyWitness.{allowed}
 use Rattle.spi.specs.Unit.{reset_spi}
 use Rattle.spi.specs.Clock.{master_of, by_mode_of}
 use Rattle.spi.specs.Control.{divisor_number, is_mode_fault}

@@ -16,24 +16,24 @@ returns-then-s-ne-NUMBER c =
 
 pub returns-then-not-settings_fit : goal.returns-then-not-settings_fit
 unfolding accepts
-returns-then-not-settings_fit c =
+returns-then-not-settings_fit c = let number = eq-eqb _ _ c.if-s-ne-NUMBER.false in
     holds _ _ c.within.ensures (ap not c.if-not-within.false)
-    (pick_true _ _ _ _ (eq-eqb _ _ c.if-s-ne-NUMBER.false)
+    (pick_true _ _ _ _ number
     (fails _ _ c.settings_fit.ensures (ap not c.if-not-settings_fit.true)))
 
 pub returns-then-not-usart_fits : goal.returns-then-not-usart_fits
 unfolding accepts
-returns-then-not-usart_fits c =
+returns-then-not-usart_fits c = let number = eq-eqb _ _ c.if-s-ne-NUMBER.false in
     holds _ _ c.within.ensures (ap not c.if-not-within.false)
-    (pick_true _ _ _ _ (eq-eqb _ _ c.if-s-ne-NUMBER.false)
+    (pick_true _ _ _ _ number
     (holds _ _ c.settings_fit.ensures (ap not c.if-not-settings_fit.false)
     (fails _ _ c.usart_fits.ensures (ap not c.if-not-usart_fits.true))))
 
 pub returns : goal.returns
 unfolding accepts
-returns c =
+returns c = let number = eq-eqb _ _ c.if-s-ne-NUMBER.false in
     holds _ _ c.within.ensures (ap not c.if-not-within.false)
-    (pick_true _ _ _ _ (eq-eqb _ _ c.if-s-ne-NUMBER.false)
+    (pick_true _ _ _ _ number
     (holds _ _ c.settings_fit.ensures (ap not c.if-not-settings_fit.false)
     (holds _ _ c.usart_fits.ensures (ap not c.if-not-usart_fits.false)
     (c.spi_fits.ensures ∙ ap spi_fits c.spi_at.ensures))))
