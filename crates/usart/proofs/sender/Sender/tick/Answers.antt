@@ -32,13 +32,13 @@ at-end f s t txc e n b q =
 pub returns-then-t-samples : goal.returns-then-t-samples
 unfolding stepped_of
 returns-then-t-samples c =
-    sending _ _ _ _ c.in-Sending.is
+    sending c.args.f _ _ _ c.in-Sending.is
     (rw (← c.samples.ensures.value) (pick_true _ _ _ _ (lt-ltb _ _ c.if-t-samples.true) c.at.ensures))
 
 pub returns-then-t-last_bit : goal.returns-then-t-last_bit
 unfolding stepped_of
 returns-then-t-last_bit c =
-    sending _ _ _ _ c.in-Sending.is
+    sending c.args.f _ _ _ c.in-Sending.is
     (rw (← c.samples.ensures.value, ← c.last_bit.ensures)
     (pick-false _ _ _ _ (le-ltb _ _ c.if-t-samples.false)
     (pick_true _ _ _ _ (lt-ltb _ _ c.if-t-last_bit.true) c.at-then-t-last_bit.ensures)))
