@@ -1,6 +1,8 @@
 ghost use Rattle.std.specs.Prelude.{◌≡◌};
-ghost use Rattle.device.specs.Unit.{reset_device, after_of, with_usart, with_spi, levels_in, output_of, requests_of, split_votes};
-ghost use Rattle.device.specs.Register.{reset_at, serial_written, spi_written, write_of, serial_read, spi_read, read_of, vector_of};
+ghost use Rattle.device.specs.Unit.{reset_device, after_of, with_usart, with_spi, levels_in, output_of, requests_of};
+ghost use Rattle.device.specs.Unit.{split_votes};
+ghost use Rattle.device.specs.Register.{reset_at, serial_written, spi_written, write_of, serial_read, spi_read};
+ghost use Rattle.device.specs.Register.{read_of, vector_of};
 
 use crate::address::Place;
 use crate::outcome::{Reading, Written};

@@ -1,4 +1,5 @@
 // The call that holds a level byte as C sees it (include/warpmagpie.h): the one of `holding`, with the same clauses.
+// Compiled by itself: a second caller of a unit's large functions would take them out of the loops of a run.
 #![tactic(auto)]
 
 ghost use Rattle.std.specs.Prelude.{◌≡◌};

@@ -1,6 +1,7 @@
 ghost use Rattle.std.specs.Prelude.{◌≡◌};
 ghost use Rattle.usart.specs.Queue.{no_frame};
-ghost use Rattle.record.specs.Parts.{buffer_data, buffer_from, transmission_in, shifter_from, remembered_in, reception_in, sampler_from, frame_parts, sender_parts, receiver_parts};
+ghost use Rattle.record.specs.Parts.{buffer_data, buffer_from, transmission_in, shifter_from, remembered_in};
+ghost use Rattle.record.specs.Parts.{reception_in, sampler_from, frame_parts, sender_parts, receiver_parts};
 
 use usart::{
     Buffer, Frame, Places, Receiver, Reception, Sample, Sampler, Sender, ShiftRegister,

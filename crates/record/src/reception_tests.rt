@@ -2,7 +2,8 @@
 ghost use Rattle.std.specs.Prelude.{◌≡◌, ◌+◌, ◌-◌, ◌^◌, ◌≤◌, eqb};
 ghost use Rattle.frame.specs.Format.{word_bits};
 ghost use Rattle.usart.specs.Valid.{voted_bits};
-ghost use Rattle.record.specs.Accepts.{reception_within, is_undecided, first_fits, second_fits, splits_fit, rest_fits, reception_fits, is_no_reception};
+ghost use Rattle.record.specs.Accepts.{reception_within, is_undecided, first_fits, second_fits, splits_fit, rest_fits};
+ghost use Rattle.record.specs.Accepts.{reception_fits, is_no_reception};
 
 use frame::Format;
 use usart::Reception;

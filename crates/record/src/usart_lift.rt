@@ -1,6 +1,8 @@
 ghost use Rattle.std.specs.Prelude.{◌≡◌, ◌+◌, ◌≤◌, length};
 ghost use Rattle.record.specs.Layout.{record_length};
-ghost use Rattle.record.specs.Lift.{baud_at, format_with, format_of, format_at, control_of, control_at, buffer_at, transmission_at, shifter_at, sender_with, sender_at, reception_at, sampler_at, frame_at, places_at, queue_with, queue_at, receiver_at, usart_at};
+ghost use Rattle.record.specs.Lift.{baud_at, format_with, format_of, format_at, control_of, control_at, buffer_at};
+ghost use Rattle.record.specs.Lift.{transmission_at, shifter_at, sender_with, sender_at, reception_at, sampler_at};
+ghost use Rattle.record.specs.Lift.{frame_at, places_at, queue_with, queue_at, receiver_at, usart_at};
 
 use crate::codes::{frame_of, known_size, size_code, word};
 use crate::layout;

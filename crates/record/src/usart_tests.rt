@@ -1,8 +1,11 @@
 // What is asked of the serial unit's bytes beyond their limits (docs/RECORD.md, 'Rules that depend on other fields').
 ghost use Rattle.std.specs.Prelude.{◌≡◌, ◌+◌, ◌≤◌, length};
-ghost use Rattle.record.specs.Layout.{record_length, ucsr0a_byte, ucsr0b_byte, ucsr0c_byte, full_byte, data_byte, sending_byte, receiving_byte, last_byte, held_byte, waits_byte, lost_byte, oldest_byte, next_byte, third_byte, byte_at, word_at, triple_at, set_at};
+ghost use Rattle.record.specs.Layout.{record_length, ucsr0a_byte, ucsr0b_byte, ucsr0c_byte, full_byte, data_byte};
+ghost use Rattle.record.specs.Layout.{sending_byte, receiving_byte, last_byte, held_byte, waits_byte, lost_byte};
+ghost use Rattle.record.specs.Layout.{oldest_byte, next_byte, third_byte, byte_at, word_at, triple_at, set_at};
 ghost use Rattle.record.specs.Lift.{baud_at, control_at, transmission_at, reception_at};
-ghost use Rattle.record.specs.Accepts.{settings_fit, counter_fits, buffer_fits, transmission_fits, is_no_transmission, shifter_fits, sampler_fits, places_fit, waiting_fits, enabled_fits, usart_fits};
+ghost use Rattle.record.specs.Accepts.{settings_fit, counter_fits, buffer_fits, transmission_fits, is_no_transmission};
+ghost use Rattle.record.specs.Accepts.{shifter_fits, sampler_fits, places_fit, waiting_fits, enabled_fits, usart_fits};
 
 use crate::codes::{known, size_code, triple, word};
 use crate::layout;

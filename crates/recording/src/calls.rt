@@ -1,7 +1,8 @@
 // The two calls. Each byte of the lent buffer is said by `trace`, number and length here.
 ghost use Rattle.std.specs.Prelude.{◌≡◌};
 ghost use Rattle.trace.specs.Filling.{buffer_written, buffer_shrunk};
-ghost use Rattle.recording.specs.Calls.{trace_write_answer, trace_write_length, trace_shrink_answer, trace_shrink_length};
+ghost use Rattle.recording.specs.Calls.{trace_write_answer, trace_write_length, trace_shrink_answer};
+ghost use Rattle.recording.specs.Calls.{trace_shrink_length};
 
 use crate::reply::answered;
 

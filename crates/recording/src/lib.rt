@@ -1,6 +1,5 @@
-// The calls that write the text of a trace: from a list of items, and shrunk from another text. They are declared for C
-// in include/warpmagpie.h with the others, take no record, and are compiled by themselves, so that a rig which only
-// writes traces links no device.
+// The calls that write the text of a trace: from a list of items, and shrunk from another text. They take no record.
+// `recording_c` exports them, compiled by themselves; they are declared for C in include/warpmagpie.h with the others.
 #![tactic(auto)]
 
 mod calls;

@@ -1,10 +1,11 @@
 // The calls that write the text of a trace as C sees them (include/warpmagpie.h): each is the one of `recording`, with
-// the same clauses.
+// the same clauses. Compiled by itself, so that a rig which only writes traces links no device.
 #![tactic(auto)]
 
 ghost use Rattle.std.specs.Prelude.{◌≡◌};
 ghost use Rattle.trace.specs.Filling.{buffer_written, buffer_shrunk};
-ghost use Rattle.recording.specs.Calls.{trace_write_answer, trace_write_length, trace_shrink_answer, trace_shrink_length};
+ghost use Rattle.recording.specs.Calls.{trace_write_answer, trace_write_length, trace_shrink_answer};
+ghost use Rattle.recording.specs.Calls.{trace_shrink_length};
 
 #[unsafe(no_mangle)]
 pub extern "C" fn warpmagpie_trace_write(items: &[u8], text: &mut [u8], size: &mut usize) -> u8

@@ -1,6 +1,7 @@
 ghost use Rattle.std.specs.Prelude.{◌≡◌};
 ghost use Rattle.spi.specs.Means.{with_transfer, with_miso, with_sck};
-ghost use Rattle.spi.specs.Clock.{master_edge, master_of, master_clock, fault_of, is_sck_edge, presented_of, slave_edge, selected_of, slave_of, by_mode_of, clock_of};
+ghost use Rattle.spi.specs.Clock.{master_edge, master_of, master_clock, fault_of, is_sck_edge, presented_of};
+ghost use Rattle.spi.specs.Clock.{slave_edge, selected_of, slave_of, by_mode_of, clock_of};
 
 use crate::divisor::{Clocks, half};
 use crate::transfer::Transfer;

@@ -1,5 +1,6 @@
 ghost use Rattle.std.specs.Prelude.{◌≡◌};
-ghost use Rattle.spi.specs.Control.{is_enabled, is_master, cpol_of, mode_of, divisor_number, without_mstr, is_input, is_mode_fault, keeps_master};
+ghost use Rattle.spi.specs.Control.{is_enabled, is_master, cpol_of, mode_of, divisor_number, without_mstr, is_input};
+ghost use Rattle.spi.specs.Control.{is_mode_fault, keeps_master};
 
 use shifter::Mode;
 

@@ -1,5 +1,6 @@
 ghost use Rattle.std.specs.Prelude.{◌≡◌};
-ghost use Rattle.spi.specs.Flag.{is_up, raised_of, armed_of, cleared_of, raised_flags, armed_flags, cleared_flags, collided_flags};
+ghost use Rattle.spi.specs.Flag.{is_up, raised_of, armed_of, cleared_of, raised_flags, armed_flags, cleared_flags};
+ghost use Rattle.spi.specs.Flag.{collided_flags};
 
 // A flag that a read of SPSR arms, and the SPDR access after it clears.
 #[derive(Clone, Copy)]

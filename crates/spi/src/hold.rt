@@ -1,7 +1,8 @@
 // One level of each pin held for many clocks. A unit at rest stays as it is, however many there are; a master counts
 // many at once.
 ghost use Rattle.std.specs.Prelude.{◌≡◌, ◌≤◌};
-ghost use Rattle.spi.specs.Holding.{held_of, is_presented, slave_rests, master_rests, step_rests, is_at_rest, stays_master, waits_for, counted_of, PassedOn};
+ghost use Rattle.spi.specs.Holding.{held_of, is_presented, slave_rests, master_rests, step_rests, is_at_rest};
+ghost use Rattle.spi.specs.Holding.{stays_master, waits_for, counted_of, PassedOn};
 
 use crate::clock::Levels;
 use crate::unit::{Spi, differs};

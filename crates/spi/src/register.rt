@@ -1,7 +1,8 @@
 ghost use Rattle.std.specs.Prelude.{◌≡◌};
 ghost use Rattle.spi.specs.Unit.{reset_spi};
 ghost use Rattle.spi.specs.Means.{with_flags, with_mosi};
-ghost use Rattle.spi.specs.Register.{set_spcr, write_spcr, set_spi2x, write_spsr, filled, started_of, loaded_of, accessed, set_ddrb, write_of, spsr, read_of, vector_of};
+ghost use Rattle.spi.specs.Register.{set_spcr, write_spcr, set_spi2x, write_spsr, filled, started_of, loaded_of};
+ghost use Rattle.spi.specs.Register.{accessed, set_ddrb, write_of, spsr, read_of, vector_of};
 
 use crate::control::Control;
 use crate::divisor::{Clocks, half};

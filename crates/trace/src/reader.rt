@@ -1,6 +1,6 @@
-// A reader that carries a text and its place in it (document 01, 'Forms'). The checker covers no function over a struct
-// that holds a reference: these are thin, over `line_at`, and proved by hand. `read_line` has plain arguments, and
-// serves every other caller.
+// A reader that carries a text and its place in it (document 01, 'Forms'). Its functions are thin, over `line_at`, since
+// a struct that holds a reference once had to be proved by hand. `read_line` has plain arguments, and serves every other
+// caller.
 ghost use Rattle.std.specs.Prelude.{◌≡◌};
 ghost use Rattle.trace.specs.Line.{line_at};
 

@@ -1,6 +1,5 @@
-// The calls on a trace: its replay. They are declared for C in include/warpmagpie.h with the others, and compiled by
-// themselves: a second caller of `Device::hold` would take it out of the loop of a replay, as one of a unit's large
-// functions would take these out of the loops of a run.
+// The calls on a trace: its replay. `tracing_c` exports it, compiled by itself; it is declared for C in
+// include/warpmagpie.h with the others.
 #![tactic(auto)]
 
 mod replay;

@@ -1,4 +1,5 @@
 // The call that replays a trace as C sees it (include/warpmagpie.h): the one of `tracing`, with the same clauses.
+// Compiled by itself: a second caller of `Device::hold` would take it out of the loop of a replay.
 #![tactic(auto)]
 
 ghost use Rattle.std.specs.Prelude.{◌≡◌};

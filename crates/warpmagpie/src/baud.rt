@@ -4,13 +4,7 @@ ghost use Rattle.warpmagpie.specs.Baud.{plan_answer, plan_ubrr, plan_tenths, che
 
 use planner::{Checked, Planned};
 
-pub fn warpmagpie_plan_baud(
-    clock: u32,
-    rate: u32,
-    u2x: u8,
-    ubrr: &mut u16,
-    tenths: &mut i32,
-) -> u8
+pub fn warpmagpie_plan_baud(clock: u32, rate: u32, u2x: u8, ubrr: &mut u16, tenths: &mut i32) -> u8
     ensures value { result ≡ plan_answer clock rate u2x }
     ensures ubrr_after { ubrr.new ≡ plan_ubrr clock rate u2x }
     ensures tenths_after { tenths.new ≡ plan_tenths clock rate u2x }
@@ -30,13 +24,7 @@ pub fn warpmagpie_plan_baud(
     }
 }
 
-pub fn warpmagpie_check_baud(
-    clock: u32,
-    rate: u32,
-    u2x: u8,
-    ubrr: u32,
-    accepted: &mut u8,
-) -> u8
+pub fn warpmagpie_check_baud(clock: u32, rate: u32, u2x: u8, ubrr: u32, accepted: &mut u8) -> u8
     ensures value { result ≡ check_answer clock rate u2x ubrr }
     ensures accepted_after { accepted.new ≡ check_accepted clock rate u2x ubrr }
 {

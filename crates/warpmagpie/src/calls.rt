@@ -1,7 +1,9 @@
 ghost use Rattle.std.specs.Prelude.{[], ◌∷◌, ◌≡◌, ◌<◌, length};
 ghost use Rattle.answer.specs.Number.{number_of};
 ghost use Rattle.answer.specs.declared.Refusal.TheVariants.{Record};
-ghost use Rattle.warpmagpie.specs.Calls.{reset_answer, record_after_reset, write_answer, record_after_write, read_answer, read_value, record_after_read, vector_answer, record_after_vector, run_answer, record_after_run, outputs_after_run};
+ghost use Rattle.warpmagpie.specs.Calls.{reset_answer, record_after_reset, write_answer, record_after_write};
+ghost use Rattle.warpmagpie.specs.Calls.{read_answer, read_value, record_after_read, vector_answer};
+ghost use Rattle.warpmagpie.specs.Calls.{record_after_vector, run_answer, record_after_run, outputs_after_run};
 ghost use Rattle.warpmagpie.specs.Calls.{told_number, told_value, requests_answer, requests_value};
 ghost use Rattle.warpmagpie.specs.Calls.{split_votes_answer, split_votes_value};
 

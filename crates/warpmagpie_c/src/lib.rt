@@ -1,9 +1,12 @@
-// The calls on a record and on baud settings as C sees them (include/warpmagpie.h): each is the one of `warpmagpie`, with
-// the same clauses.
+// The calls on a record and on baud settings as C sees them (include/warpmagpie.h): each is the one of `warpmagpie`,
+// with the same clauses.
 #![tactic(auto)]
 
 ghost use Rattle.std.specs.Prelude.{◌≡◌};
-ghost use Rattle.warpmagpie.specs.Calls.{reset_answer, record_after_reset, write_answer, record_after_write, read_answer, read_value, record_after_read, vector_answer, record_after_vector, run_answer, record_after_run, outputs_after_run, requests_answer, requests_value, split_votes_answer, split_votes_value};
+ghost use Rattle.warpmagpie.specs.Calls.{reset_answer, record_after_reset, write_answer, record_after_write};
+ghost use Rattle.warpmagpie.specs.Calls.{read_answer, read_value, record_after_read, vector_answer};
+ghost use Rattle.warpmagpie.specs.Calls.{record_after_vector, run_answer, record_after_run, outputs_after_run};
+ghost use Rattle.warpmagpie.specs.Calls.{requests_answer, requests_value, split_votes_answer, split_votes_value};
 ghost use Rattle.warpmagpie.specs.Baud.{plan_answer, plan_ubrr, plan_tenths, check_answer, check_accepted};
 
 #[unsafe(no_mangle)]
