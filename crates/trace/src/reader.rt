@@ -1,5 +1,5 @@
-// A reader that carries a text and its place in it (document 01, 'Forms'). Its functions are thin, over `line_at`, since
-// a struct that holds a reference once had to be proved by hand. `read_line` has plain arguments, and serves every other
+// A reader that carries a text and its place in it (document 01, 'Forms'). Its functions are thin, over `line_at`: a
+// struct that holds a reference once had to be proved by hand. `read_line` has plain arguments, and serves every other
 // caller.
 ghost use Rattle.std.specs.Prelude.{◌≡◌};
 ghost use Rattle.trace.specs.Line.{line_at};

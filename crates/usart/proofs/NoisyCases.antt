@@ -1,9 +1,7 @@
 -- What M-112's noise does to a closed list, computed: the counts, and the clocks that are turned over.
 use Prim.Native.Nat.{ℕ, zero, suc}
 use mathlib.Core.List.{List, [], ◌∷◌, ◌++◌, map}
-use mathlib.Core.Path.{◌≡◌, refl, sym}
-use lib.Dec.{lit≤, lit<}
-use lib.ListN.{length}
+use mathlib.Core.Path.{◌≡◌, refl}
 use Rattle.choice.specs.Pick.{pick}
 use Rattle.frame.specs.Parity.{sum_of_bits}
 use Rattle.frame.specs.Word.{frame_bit, parity_error}
@@ -11,17 +9,12 @@ use Rattle.usart.specs.Baud.{left_of}
 use Rattle.usart.specs.Sending.{tick_from}
 use Rattle.usart.specs.Sender.{stepped_of}
 use Rattle.usart.specs.Sampler.{idle_of, cast_of, next_bit_of, shifted_of, tally_of, decided_of, voted_of, sampled_of, sampler_of}
-use Rattle.usart.specs.Receiver.{listened_of, enabled_of}
-use Rattle.usart.specs.Unit.{bit_clocks, is_busy, clock_of, is_driven, output_of}
-use Rattle.usart.specs.Settings.{size_of, parity_of}
-use Rattle.usart.specs.Write.{formatted_of, txc_cleared, write_a, write_c, is_reserved_c, sized_c, timed_of, transmitted_of, vector_of}
+use Rattle.usart.specs.Receiver.{listened_of}
+use Rattle.usart.specs.Unit.{is_busy, clock_of}
 use Rattle.usart.specs.Event.{final_of}
 use Rattle.usart.specs.Line.{line_level}
 use Rattle.usart.specs.Noise.{is_hit_below, is_turned}
 use Rattle.usart.specs.Receiving.{held_by, seen_in, reads_of}
-use Rattle.usart.specs.Marked.{sending, status_bits, zeros, M8, four_frames, line, read_at, M10}
-use Rattle.usart.specs.Marked.{listening as listening10}
-use Rattle.usart.proofs.ClosedLists.{driven, driven-drives}
 use Rattle.usart.proofs.Examples.{listening}
 use Rattle.usart.proofs.NoisyExamples.{slower, two_frames, first_hits, second_hits, hit_of, noise, noisy, noisy_received, run}
 

@@ -1,21 +1,14 @@
 -- The line with M-112's noise that witness and cases have: two frames at UBRR 2, hit in start, data, parity and stop bits.
 use Prim.Native.Nat.{ℕ, zero, suc}
-use mathlib.Core.Bool.{Bool, true, false}
+use mathlib.Core.Bool.{Bool}
 use mathlib.Core.List.{List, [], ◌∷◌}
 use lib.Dec.{eqb}
 use Rattle.choice.specs.Pick.{pick}
-use Rattle.frame.specs.declared.format.Size.TheVariants.{Five}
-use Rattle.frame.specs.declared.format.Parity.TheVariants.{Off, Even}
-use Rattle.usart.specs.Receiver.{stopped}
-use Rattle.usart.specs.Event.{Event, clock, write, read, vector}
-use Rattle.usart.specs.Line.{Sent, line_level}
+use Rattle.usart.specs.Event.{Event, clock, read}
+use Rattle.usart.specs.Line.{Sent}
 use Rattle.usart.specs.Noise.{Noise, noisy_level}
-use Rattle.usart.specs.declared.sender.Buffer.TheVariants.{Vacant, Full}
-use Rattle.usart.specs.declared.sender.ShiftRegister.TheVariants.{Resting}
-use Rattle.usart.specs.declared.sampler.Sampler.TheVariants.{Idle}
-use Rattle.usart.specs.declared.queue.Places.TheVariants.{Empty}
 use Rattle.usart.specs.declared.unit.Usart.{Usart}
-use Rattle.usart.specs.declared.write.Register.TheVariants.{Ucsr0a, Ucsr0c, Ubrr0l, Udr0}
+use Rattle.usart.specs.declared.write.Register.TheVariants.{Udr0}
 use Rattle.usart.proofs.Examples.{listening}
 
 -- the levels w for n clocks, the first of them at clock j

@@ -5,7 +5,7 @@ use mathlib.Core.List.{List, [], ◌∷◌}
 use mathlib.Core.Path.{refl}
 use native.Mathlib.Omega.{arith}
 use lib.Dec.{eqb, lit≤, lit<}
-use Rattle.choice.proofs.Picks.{clash, pick_ind}
+use Rattle.choice.proofs.Picks.{pick_ind}
 use Rattle.frame.specs.Parity.{sum_of_bits}
 use Rattle.frame.specs.Word.{frame_bit, parity_error}
 use Rattle.usart.specs.Baud.{left_of}
@@ -14,14 +14,11 @@ use Rattle.usart.specs.Sender.{stepped_of}
 use Rattle.usart.specs.Sampler.{idle_of, cast_of, next_bit_of, shifted_of, tally_of, decided_of, voted_of, sampled_of, sampler_of}
 use Rattle.usart.specs.Receiver.{listened_of}
 use Rattle.usart.specs.Unit.{is_busy, clock_of}
-use Rattle.usart.specs.Settings.{size_of, parity_of}
-use Rattle.usart.specs.Write.{formatted_of, write_c, is_reserved_c, sized_c, timed_of, transmitted_of, vector_of}
 use Rattle.usart.specs.Event.{levels_of}
 use Rattle.usart.specs.Line.{line_level}
 use Rattle.usart.specs.Noise.{Allowed, is_hit_below, is_turned}
 use Rattle.usart.specs.Votes.{Each}
 use Rattle.usart.specs.NoisyReceiving.{HearsNoisy}
-use Rattle.usart.specs.Sending.{MaySend}
 use Rattle.usart.proofs.ClosedLists.{bool-eqb, shown, shown-shows, none, room, none_waits, none-waits}
 use Rattle.usart.proofs.Examples.{listening}
 use Rattle.usart.proofs.NoisyExamples.{slower, two_frames, first_hits, second_hits, hit_of, noise, noisy, noisy_received, run}

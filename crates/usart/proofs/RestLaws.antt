@@ -2,14 +2,14 @@
 -- been sent, the one in the shifter and the one in the buffer.
 use Prim.Native.Nat.{ℕ, ◌+◌, ◌-◌, ◌*◌, ◌/◌, ◌≤◌, ◌<◌}
 use mathlib.Core.Bool.{Bool, true, false}
-use mathlib.Core.Path.{◌≡◌, refl, sym, ap, ◌∙◌}
-use native.Mathlib.Nat.{le-div_iff_mul-le, mul-le-mul_left}
+use mathlib.Core.Path.{◌≡◌, refl, ap, ◌∙◌}
+use native.Mathlib.Nat.{le-div_iff_mul-le}
 use native.Mathlib.Omega.{arith}
-use lib.Dec.{eqb, ltb, leb, lit<}
-use borrow.Author.Tests.{eqb-true, ltb-true, ltb-false, leb-true, leb-false}
+use lib.Dec.{eqb, ltb, leb}
+use borrow.Author.Tests.{ltb-true, ltb-false, leb-true, leb-false}
 use Rattle.choice.specs.Pick.{pick}
 use Rattle.choice.specs.Times.{times}
-use Rattle.choice.proofs.Picks.{pick_ind, split, clash}
+use Rattle.choice.proofs.Picks.{pick_ind, clash}
 use Rattle.choice.proofs.Settling.{Settling, settles}
 use Rattle.frame.specs.Format.{samples, first_vote, word_bits, last_bit}
 use Rattle.frame.specs.Vote.{vote_of}
@@ -23,7 +23,7 @@ use Rattle.usart.specs.Sampler.{idle_of, cast_of, next_bit_of, shifted_of, spent
 use Rattle.usart.specs.Receiver.{listened_of}
 use Rattle.usart.specs.Holding.{held_of, held_sender, listened_at, held_receiver}
 use Rattle.usart.specs.Holding.{sender_rests, sampler_rests, receiver_rests, is_at_rest, resting_from}
-use Rattle.usart.specs.Valid.{ValidBaud, ValidBuffer, ValidTransmission, ValidShifter, ValidSender, ValidReception, ValidSampler, ValidReceiver, Valid}
+use Rattle.usart.specs.Valid.{ValidBaud, ValidTransmission, ValidShifter, ValidSender, ValidReception, ValidSampler, ValidReceiver, Valid}
 use Rattle.usart.specs.declared.baud.Baud.{Baud}
 use Rattle.usart.specs.declared.sender.Buffer.{Buffer}
 use Rattle.usart.specs.declared.sender.Buffer.TheVariants.{Vacant, Full}

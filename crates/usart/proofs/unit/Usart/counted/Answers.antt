@@ -1,5 +1,4 @@
 use mathlib.Core.Path.{refl}
-use borrow.Author.Tests.{eqb-true}
 use Rattle.choice.proofs.Picks.{pick_true, pick-false, flag-of}
 use Rattle.usart.specs.Counting.{counted_of}
 use Rattle.usart.proofs.CountingLaws.{ticking, all-ticks, waiting}
