@@ -1,18 +1,13 @@
 //! Compares the archive `libwarpmagpie.a` with the model in model/: random histories, random devices, damaged records,
 //! lines at the limits of the rate error, devices joined by wires, records that break one rule, long holds, lines with
-//! noise, lines whose frames are read late, and lines with the noise that demand 3 allows. Then holds, counts of split
-//! votes and stand-ins for all calls that are wrong on purpose, the last with frames that wait or with noise, take the
-//! archive's place, and each has to be seen.
+//! noise, and lines whose frames are read late. Then holds, counts of split votes and stand-ins for all calls that are
+//! wrong on purpose, the last with frames that wait, take the archive's place, and each has to be seen.
 //!
 //! compare [--seed N] [--scale K]
 
 #[forbid(unsafe_code)]
 mod model;
 
-#[path = "compare/allowed_noise.rs"]
-mod allowed_noise;
-#[path = "compare/allowed_tally.rs"]
-mod allowed_tally;
 #[path = "compare/archive.rs"]
 mod archive;
 #[path = "compare/arguments.rs"]
@@ -53,8 +48,6 @@ mod hold_splits;
 mod hold_turns;
 #[path = "compare/holds.rs"]
 mod holds;
-#[path = "compare/interrupted.rs"]
-mod interrupted;
 #[path = "compare/late_reads.rs"]
 mod late_reads;
 #[path = "compare/late_tally.rs"]
@@ -65,16 +58,12 @@ mod levels;
 mod lines;
 #[path = "compare/noise.rs"]
 mod noise;
-#[path = "compare/noisy_clocks.rs"]
-mod noisy_clocks;
 #[path = "compare/noisy_lines.rs"]
 mod noisy_lines;
 #[path = "compare/pair.rs"]
 mod pair;
 #[path = "compare/parts.rs"]
 mod parts;
-#[path = "compare/playing.rs"]
-mod playing;
 #[path = "compare/random.rs"]
 mod random;
 #[path = "compare/rates.rs"]
@@ -83,16 +72,10 @@ mod rates;
 mod reckoning;
 #[path = "compare/sampling.rs"]
 mod sampling;
-#[path = "compare/settings.rs"]
-mod settings;
 #[path = "compare/stand_in.rs"]
 mod stand_in;
-#[path = "compare/stop_votes.rs"]
-mod stop_votes;
 #[path = "compare/tally.rs"]
 mod tally;
-#[path = "compare/too_much_noise.rs"]
-mod too_much_noise;
 #[path = "compare/votes.rs"]
 mod votes;
 #[path = "compare/waiting_calls.rs"]
@@ -103,8 +86,6 @@ mod waiting_clocks;
 mod waiting_records;
 #[path = "compare/waits.rs"]
 mod waits;
-#[path = "compare/watched.rs"]
-mod watched;
 #[path = "compare/wires.rs"]
 mod wires;
 #[path = "compare/wrong_asks.rs"]
@@ -115,8 +96,6 @@ mod wrong_clocks;
 mod wrong_counts;
 #[path = "compare/wrong_holds.rs"]
 mod wrong_holds;
-#[path = "compare/wrong_receivers.rs"]
-mod wrong_receivers;
 #[path = "compare/wrong_waits.rs"]
 mod wrong_waits;
 #[path = "compare/wrong_ways.rs"]
@@ -132,7 +111,7 @@ type Part = parts::Part<Run>;
 
 /// A round is a history, a device, a record, or some of them.
 #[rustfmt::skip] // a line each
-const PARTS: [Part; 10] = [
+const PARTS: [Part; 9] = [
     Part { name: "random histories", run: histories::run, rounds: 36_000 },
     Part { name: "random valid devices", run: devices::run, rounds: 1_400_000 },
     Part { name: "damaged records", run: damage::run, rounds: 4_500_000 },
@@ -142,7 +121,6 @@ const PARTS: [Part; 10] = [
     Part { name: "long holds", run: holds::run, rounds: 1 },
     Part { name: "lines with noise", run: noise::run, rounds: 50 },
     Part { name: "lines read late", run: late_reads::run, rounds: 40 },
-    Part { name: "lines with allowed noise", run: allowed_noise::run, rounds: 80 },
 ];
 
 fn main() {
@@ -151,16 +129,11 @@ fn main() {
 
 fn compare_all(seed: u64, scale: u64) -> Result<(), String> {
     let mut tally = Tally::default();
-    parts::all(&PARTS, seed, |run, rounds, random| {
-        run(rounds * scale, random, &mut tally)
-    })?;
-    too_much_noise::breaks_frames(seed, &mut tally)?;
-    stop_votes::can_lose_frames(seed, &mut tally)?;
+    parts::all(&PARTS, seed, |run, rounds, random| run(rounds * scale, random, &mut tally))?;
     tally.complete()?;
     tally.wrong_holds = wrong_holds::all_are_seen(seed)?;
     tally.wrong_counts = wrong_counts::all_are_seen(seed)?;
     tally.wrong_waits = wrong_waits::all_are_seen(seed)?;
-    tally.wrong_receivers = wrong_receivers::all_are_seen(seed)?;
     tally.noise.two_turned_over = wrong_counts::two_turned_over_are_seen(seed)?;
     println!("{:34}{seed:>12}", "seed");
     println!("{:34}{scale:>12}", "scale");

@@ -53,18 +53,15 @@ pub struct Counter {
 }
 
 impl Counter {
-    /// A counter of an idle receiver. Of frames at first the counts are right.
+    /// A counter of an idle receiver that holds no frame.
     pub fn new(device: Device, way: Way) -> Counter {
-        let receiver = &device.usart.receiver;
-        let places = [receiver.oldest, receiver.second, receiver.waiting];
-        let held = places.iter().flatten().map(|frame| frame.split_votes);
         Counter {
-            held: held.collect(),
             device,
             way,
             ended: Ended::Completed(0),
             count: 0,
             samples: Vec::new(),
+            held: Vec::new(),
         }
     }
 

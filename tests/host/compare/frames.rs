@@ -1,14 +1,10 @@
 //! Frames that have to come out of a receiver, and what they are read from: the archive beside the model, or a program
 //! that is wrong on purpose.
 
-use crate::model::receiver::Received;
+use crate::model::address;
 use crate::model::usart::{bit, DOR, FE, RXB8, RXC, UPE};
-use crate::model::{address, layout};
 use crate::pair::Pair;
 use crate::tally::Tally;
-
-/// 'The buffer holds two frames' (document 01).
-pub const PLACES: usize = 2;
 
 /// A frame as it has to be read.
 #[derive(Clone, Copy)]
@@ -38,27 +34,10 @@ impl Frame {
     }
 }
 
-impl From<Received> for Frame {
-    fn from(received: Received) -> Frame {
-        Frame {
-            data: received.data,
-            fe: received.fe,
-            upe: received.upe,
-            dor: received.dor,
-            split_votes: received.split_votes,
-        }
-    }
-}
-
 pub trait Program {
     fn pass_levels(&mut self, levels: &[u8], tally: &mut Tally) -> Result<(), String>;
     fn read_register(&mut self, address: u16, tally: &mut Tally) -> Result<u8, String>;
     fn ask_split_votes(&mut self, tally: &mut Tally) -> Result<u8, String>;
-
-    /// How many frames are held, and how many wait, where the program shows its record.
-    fn places(&self) -> Option<[u8; 2]> {
-        None
-    }
 }
 
 /// The answers are the archive's; the model is compared with it at each call.
@@ -74,22 +53,6 @@ impl Program for Pair {
     fn ask_split_votes(&mut self, tally: &mut Tally) -> Result<u8, String> {
         self.split_votes(tally)
     }
-
-    fn places(&self) -> Option<[u8; 2]> {
-        Some([layout::FRAMES_HELD, layout::FRAME_WAITS].map(|place| self.record[place]))
-    }
-}
-
-/// All frames unread are there, as far as a record shows it: two are held, and one more waits.
-pub fn expect_held(program: &impl Program, unread: usize) -> Result<(), String> {
-    let Some([held, waits]) = program.places() else {
-        return Ok(());
-    };
-    let expected = [unread.min(PLACES), unread.saturating_sub(PLACES)];
-    if [held, waits].map(usize::from) != expected {
-        return Err(format!("{held} frames held, {waits} wait, of {unread}"));
-    }
-    Ok(())
 }
 
 /// Reads the oldest frame, or finds none: split votes, flags and ninth bit first, since the read of UDR0 takes the

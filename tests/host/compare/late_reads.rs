@@ -2,17 +2,17 @@
 //! false starts, errors and split votes, are read at any clocks, and at those around the last vote of a start bit. What
 //! each read has to find is reckoned in reckoning.rs from the clocks of the frames and of the reads, not by the model.
 
-use crate::devices::random_received;
-use crate::frames::{read_frame, see_frame, Program};
+use crate::frames::{read_frame, see_frame, Frame, Program};
+use crate::lines::receiving_device;
 use crate::model::frame::Format;
-use crate::model::receiver::Received;
+use crate::model::receiver::{Received, Receiver};
 use crate::model::{level, Device};
 use crate::noisy_lines::{NoisyLine, Sent};
 use crate::pair::Pair;
 use crate::random::Random;
-use crate::rates::{bits_at_limit, Bit};
+use crate::rates::{all_formats, bits_at_limit, Bit};
 use crate::reckoning::{Due, Reckoning};
-use crate::settings;
+use crate::sampling::Sampling;
 use crate::tally::Tally;
 
 /// UBRR and the frames of a line with it.
@@ -33,12 +33,17 @@ pub fn round<P: Program>(
     random: &mut Random,
     tally: &mut Tally,
 ) -> Result<(), String> {
-    settings::each(&LENGTHS, random_bit, random, |setting, frames, random| {
-        let first = First::random(random);
-        let device = setting.holding_device(&first.frames, first.lost, random);
-        let line = random_line(frames, setting.line_to(&device), random);
-        play(&line, first, &mut make(device)?, random, tally)
-    })
+    for format in all_formats() {
+        for (ubrr, frames) in LENGTHS {
+            let bit = random_bit(&format, ubrr, random);
+            let (device, first) = holding_device(&format, ubrr, random);
+            let sampling = Sampling::new(&format, ubrr, device.usart.counter);
+            let line = random_line(frames, NoisyLine::new(&format, bit, sampling), random);
+            play(&line, first, &mut make(device)?, random, tally)
+                .map_err(|text| format!("{format:?}, UBRR {ubrr}, {bit:?}: {text}"))?;
+        }
+    }
+    Ok(())
 }
 
 fn random_bit(format: &Format, ubrr: u16, random: &mut Random) -> Bit {
@@ -60,24 +65,54 @@ fn random_line(frames: usize, mut line: NoisyLine, random: &mut Random) -> Noisy
 
 /// What a line finds: frames held, oldest first, the last of three waiting, and a loss that is pending.
 struct First {
-    frames: Vec<Received>,
+    frames: Vec<Frame>,
     lost: bool,
 }
 
-impl First {
-    fn random(random: &mut Random) -> First {
-        let frames = random.pick(&[0, 0, 1, 2, 3]);
-        First {
-            frames: (0..frames).map(|_| random_received(random)).collect(),
-            lost: random.percent(25),
-        }
+/// An idle receiver that remembers high, with any frames at first.
+fn holding_device(format: &Format, ubrr: u16, random: &mut Random) -> (Device, First) {
+    let first = First {
+        frames: (0..random.pick(&[0, 0, 1, 2, 3]))
+            .map(|_| random_frame(random))
+            .collect(),
+        lost: random.percent(25),
+    };
+    let mut device = receiving_device(format, ubrr, random);
+    let place = |number: usize| first.frames.get(number).map(received);
+    device.usart.receiver = Receiver {
+        oldest: place(0),
+        second: place(1),
+        waiting: place(2),
+        lost: first.lost,
+        ..device.usart.receiver
+    };
+    (device, first)
+}
+
+/// Of any format: one that is held is not bound by the present one.
+fn random_frame(random: &mut Random) -> Frame {
+    Frame {
+        data: random.below(512) as u16,
+        fe: random.flip(),
+        upe: random.flip(),
+        dor: random.flip(),
+        split_votes: random.between(0, 12) as u8,
+    }
+}
+
+fn received(frame: &Frame) -> Received {
+    Received {
+        data: frame.data,
+        fe: frame.fe,
+        upe: frame.upe,
+        dor: frame.dor,
+        split_votes: frame.split_votes,
     }
 }
 
 /// The frames of a line behind those at first.
 fn dues(line: &NoisyLine, first: &First) -> Vec<Due> {
-    let frames = first.frames.iter().copied();
-    let at_first = frames.map(|frame| Due::at_first(frame.into()));
+    let at_first = first.frames.iter().map(|&frame| Due::at_first(frame));
     at_first.chain(line.frames.iter().map(Due::of)).collect()
 }
 

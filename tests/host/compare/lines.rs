@@ -3,12 +3,12 @@
 use std::collections::VecDeque;
 
 use crate::devices::{random_device, random_format};
-use crate::frames::{expect_held, read_frame, Frame, PLACES};
+use crate::frames::{read_frame, Frame};
 use crate::model::frame::Format;
 use crate::model::receiver::{Line, Receiver};
 use crate::model::sender::Sender;
 use crate::model::usart::RXC;
-use crate::model::{address, level, Device};
+use crate::model::{address, layout, level, Device};
 use crate::pair::Pair;
 use crate::random::Random;
 use crate::rates::{all_formats, bits_at_limit, check_m9, Bit};
@@ -16,6 +16,8 @@ use crate::tally::Tally;
 
 /// UBRR and the frames of a line with it.
 const LENGTHS: [(u16, usize); 4] = [(0, 12), (1, 10), (3, 8), (24, 3)];
+/// 'The buffer holds two frames'.
+const PLACES: usize = 2;
 /// Lines outside the limits, for each round over the formats.
 const OUTSIDE: usize = 60;
 /// Frames of such a line.
@@ -123,6 +125,16 @@ fn line_inside(
         read_frame(&mut pair, frame, tally)?;
     }
     tally.line_frames += frames as u64;
+    Ok(())
+}
+
+/// All frames unread are there: two are held, and one more waits.
+fn expect_held(pair: &Pair, unread: usize) -> Result<(), String> {
+    let [held, waits] = [layout::FRAMES_HELD, layout::FRAME_WAITS].map(|place| pair.record[place]);
+    let expected = [unread.min(PLACES), unread.saturating_sub(PLACES)];
+    if [held, waits].map(usize::from) != expected {
+        return Err(format!("{held} frames held, {waits} wait, of {unread}"));
+    }
     Ok(())
 }
 

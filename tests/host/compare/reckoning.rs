@@ -4,9 +4,12 @@
 //! not lost one after the other, each if it is there. A frame carries DOR exactly if the one before it is lost, or a
 //! loss was pending at first.
 
-use crate::frames::{Frame, PLACES};
+use crate::frames::Frame;
 use crate::late_tally::LateTally;
 use crate::noisy_lines::Sent;
+
+/// 'The buffer holds two frames' (document 01).
+const PLACES: usize = 2;
 
 /// A frame, and the times from which on its first low sample is taken, its start is accepted, and it is there.
 pub struct Due {

@@ -7,16 +7,6 @@ use crate::model::frame::Format;
 const VOTES_16: [u64; 3] = [8, 9, 10];
 const VOTES_8: [u64; 3] = [4, 5, 6];
 
-/// A voting sample of a frame.
-#[derive(Clone, Copy, PartialEq, Debug)]
-pub struct VotingSample {
-    /// The clock at which it is taken.
-    pub clock: usize,
-    /// Its bit, the start bit being 0, and which of the bit's three votes it is, 0 to 2.
-    pub bit: u64,
-    pub vote: usize,
-}
-
 /// When a receiver samples. Document 01: 'At each clock: if the counter is 0 it gives a tick and is loaded with UBRR,
 /// else it falls by one. So ticks are UBRR+1 clocks apart.' 'At each tick RxD is sampled.'
 #[derive(Clone, Copy)]
@@ -56,12 +46,6 @@ impl Sampling {
     /// sample 1 of the start bit', here at the clock `first`, and 'Each following bit has S samples'.
     pub fn clock_of(&self, first: u64, bit: u64, sample: u64) -> u64 {
         first + (bit * self.samples + sample - 1) * self.turn
-    }
-
-    /// A vote of a bit of that frame.
-    pub fn vote(&self, first: u64, bit: u64, vote: usize) -> VotingSample {
-        let clock = self.clock_of(first, bit, self.votes[vote]) as usize;
-        VotingSample { clock, bit, vote }
     }
 
     /// A clock of that frame is the clock of a voting sample.

@@ -1,6 +1,5 @@
 //! What was done in all parts together, and the table at the end.
 
-use crate::allowed_tally::AllowedTally;
 use crate::call::Call;
 use crate::late_tally::LateTally;
 use crate::model::{level, spi, Device};
@@ -54,25 +53,12 @@ pub struct Tally {
     pub waits_in_histories: Waits,
     pub late: LateTally,
     pub wrong_waits: u64,
-    pub allowed: AllowedTally,
-    pub wrong_receivers: u64,
 }
 
 impl Tally {
     pub fn count_call(&mut self, call: &Call, number: u8) {
         self.calls[call.kind()] += 1;
         self.numbers[number as usize] += 1;
-    }
-
-    /// Goes through lines with noise put on them: what is seen of votes elsewhere must be complete without them.
-    pub fn leaving_votes(
-        &mut self,
-        go: impl FnOnce(&mut Tally) -> Result<(), String>,
-    ) -> Result<(), String> {
-        let elsewhere = std::mem::take(&mut self.votes);
-        let outcome = go(self);
-        self.votes = elsewhere;
-        outcome
     }
 
     /// Counts what one clock of the model brought.
@@ -96,14 +82,13 @@ impl Tally {
             .count_clock(&before.usart, level & level::RXD != 0);
     }
 
-    /// Every refusal must have been met, both ends of a break, split votes of every kind and number, frames that wait
-    /// with all that can become of them, and allowed noise at every vote of every kind of bit.
+    /// Every refusal must have been met, both ends of a break, split votes of every kind and number, and frames that
+    /// wait with all that can become of them.
     pub fn complete(&self) -> Result<(), String> {
         self.votes.complete()?;
         self.noise.complete()?;
         self.waits_in_histories.complete()?;
         self.late.complete()?;
-        self.allowed.complete()?;
         if self.line_frames_waited == 0 {
             return Err("no frame waited on lines at the limits".to_string());
         }
@@ -118,8 +103,11 @@ impl Tally {
         }
     }
 
-    fn rows(&self) -> [(&str, u64); 23] {
-        [
+    pub fn print(&self) {
+        for (kind, calls) in KINDS.iter().zip(self.calls) {
+            print_row(&format!("calls, {kind}"), calls);
+        }
+        let rows = [
             ("clocks", self.clocks),
             ("frames received", self.frames_received),
             ("frames sent", self.frames_sent),
@@ -142,22 +130,14 @@ impl Tally {
             ("wrong holds seen", self.wrong_holds),
             ("wrong counts seen", self.wrong_counts),
             ("wrong waits seen", self.wrong_waits),
-            ("wrong receivers of noise seen", self.wrong_receivers),
-        ]
-    }
-
-    pub fn print(&self) {
-        for (kind, calls) in KINDS.iter().zip(self.calls) {
-            print_row(&format!("calls, {kind}"), calls);
-        }
-        for (name, count) in self.rows() {
+        ];
+        for (name, count) in rows {
             print_row(name, count);
         }
         self.votes.print();
         self.noise.print();
         self.waits_in_histories.print();
         self.late.print();
-        self.allowed.print();
         for number in 1..=8 {
             print_row(&format!("refusals with {number}"), self.numbers[number]);
         }

@@ -4,8 +4,6 @@ use crate::model::frame::Format;
 use crate::model::layout::held::SPLIT_VOTES_LAST;
 use crate::model::receiver::{Line, Receiving};
 use crate::model::usart::Usart;
-use crate::noisy_lines::NoisyLine;
-use crate::playing::Played;
 use crate::tally::print_row;
 
 /// Kinds of bits whose votes count.
@@ -13,7 +11,7 @@ pub const START: usize = 0;
 pub const DATA: usize = 1;
 pub const PARITY: usize = 2;
 pub const STOP: usize = 3;
-pub const BITS: [&str; 4] = ["start", "data", "parity", "stop"];
+const BITS: [&str; 4] = ["start", "data", "parity", "stop"];
 
 /// Numbers of split votes that a frame can have.
 pub const COUNTS: usize = SPLIT_VOTES_LAST as usize + 1;
@@ -37,14 +35,14 @@ pub struct Votes {
 #[derive(Default)]
 pub struct NoiseTally {
     /// Frames that came out without DOR, by the number of bits that were hit.
-    frames: [u64; COUNTS],
+    pub frames: [u64; COUNTS],
     /// Frames that waited and came out, those lost at an accepted start, and those that came out with DOR after it.
-    moved_in: u64,
-    lost: u64,
-    after_loss: u64,
+    pub moved_in: u64,
+    pub lost: u64,
+    pub after_loss: u64,
     /// Frames with noise where nothing votes, too.
-    stray_frames: u64,
-    false_starts: u64,
+    pub stray_frames: u64,
+    pub false_starts: u64,
     /// Bits in which two votes were turned over, each of which gave its frame away.
     pub two_turned_over: u64,
 }
@@ -119,18 +117,6 @@ impl Votes {
 }
 
 impl NoiseTally {
-    /// Counts a line and what came out of it.
-    pub fn count(&mut self, played: &Played, line: &NoisyLine) {
-        for (count, frames) in self.frames.iter_mut().zip(played.frames) {
-            *count += frames;
-        }
-        self.moved_in += played.moved_in;
-        self.lost += played.lost;
-        self.after_loss += played.after_loss;
-        self.stray_frames += line.stray_frames;
-        self.false_starts += line.false_starts;
-    }
-
     /// Each number of split votes must have been met often, and all the rest.
     pub fn complete(&self) -> Result<(), String> {
         let losses = self.moved_in.min(self.lost).min(self.after_loss);

@@ -37,7 +37,7 @@ const WRONG: [(&str, SplitVotes); 12] = [
 ];
 
 /// Records of which each must be asked.
-const ASKS: u64 = 100_000;
+const ASKS: u64 = 20_000;
 
 /// Answers how many there are; a right one must not be seen.
 pub fn all_are_seen(seed: u64) -> Result<u64, String> {

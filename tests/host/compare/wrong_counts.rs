@@ -2,9 +2,9 @@
 //! each has to be seen, else the test could not fail. They are made of the model; what is not wrong on purpose is
 //! right.
 
-use crate::allowed_noise;
 use crate::counter::{Counter, Way};
 use crate::frames::Program;
+use crate::lines::receiving_device;
 use crate::model::frame::Format;
 use crate::model::layout::held::SPLIT_VOTES_LAST;
 use crate::noise;
@@ -12,16 +12,17 @@ use crate::noisy_lines::NoisyLine;
 use crate::pair::Pair;
 use crate::random::Random;
 use crate::rates::{all_formats, bits_at_limit};
-use crate::settings::Setting;
+use crate::sampling::Sampling;
 use crate::tally::Tally;
 use crate::votes::{DATA, PARITY, START, STOP};
 use crate::wrong_asks;
 use crate::wrong_ways::*;
 
-/// Seen on lines with noise and on lines with allowed noise.
 #[rustfmt::skip] // a line each
-const WRONG: [(&str, Way); 22] = [
+const WRONG: [(&str, Way); 27] = [
     ("not cleared for the next frame", Way { begin: after_any, ..RIGHT }),
+    ("a dropped start's vote goes to the next frame", Way { begin: after_dropped, ..RIGHT }),
+    ("a lost frame's count goes to the next frame", Way { accept: hand_on, ..RIGHT }),
     ("the start bit not counted", Way { vote: |vote| all_but(START, vote), ..RIGHT }),
     ("data bits not counted", Way { vote: |vote| all_but(DATA, vote), ..RIGHT }),
     ("the parity bit not counted", Way { vote: |vote| all_but(PARITY, vote), ..RIGHT }),
@@ -31,6 +32,7 @@ const WRONG: [(&str, Way); 22] = [
     ("three bits of the count", Way { vote: |vote| counted(vote) & 7, ..RIGHT }),
     ("votes unlike the first, not bits", Way { vote: unlike_the_first, ..RIGHT }),
     ("all samples of a bit vote", Way { vote: all_samples, ..RIGHT }),
+    ("the sample before the votes votes too", Way { vote: four_samples, ..RIGHT }),
     ("the first vote not looked at", Way { vote: |vote| of_two([1, 2], vote), ..RIGHT }),
     ("the second vote not looked at", Way { vote: |vote| of_two([0, 2], vote), ..RIGHT }),
     ("the last vote not looked at", Way { vote: |vote| of_two([0, 1], vote), ..RIGHT }),
@@ -38,29 +40,13 @@ const WRONG: [(&str, Way); 22] = [
     ("high bits alone", Way { vote: |vote| voted(true, vote), ..RIGHT }),
     ("the count of one that waits put to the second", Way { enter: enter_over_second, ..RIGHT }),
     ("no count of one that waits", Way { enter: enter_without_waiting, ..RIGHT }),
+    ("the second's count lost with the one that waits", Way { accept: lose_second, ..RIGHT }),
+    ("no count beside DOR", Way { enter: enter_without_dor, ..RIGHT }),
     ("a read takes the newest frame's count", Way { take: take_newest, ..RIGHT }),
     ("the newest frame's", Way { answer: |held, _| newest(held), ..RIGHT }),
     ("the one's that waits", Way { answer: |held, _| *held.get(2).unwrap_or(&oldest(held)), ..RIGHT }),
     ("the frame's under way", Way { answer: |held, under_way| under_way.unwrap_or(oldest(held)), ..RIGHT }),
     ("the frame's under way where none is held", Way { answer: oldest_or, ..RIGHT }),
-];
-
-/// Seen on lines with noise alone: the others have no false start, no loss, and no noise beside the votes.
-#[rustfmt::skip] // a line each
-const WRONG_BESIDE: [(&str, Way); 5] = [
-    ("a dropped start's vote goes to the next frame", Way { begin: after_dropped, ..RIGHT }),
-    ("a lost frame's count goes to the next frame", Way { accept: hand_on, ..RIGHT }),
-    ("the sample before the votes votes too", Way { vote: four_samples, ..RIGHT }),
-    ("the second's count lost with the one that waits", Way { accept: lose_second, ..RIGHT }),
-    ("no count beside DOR", Way { enter: enter_without_dor, ..RIGHT }),
-];
-
-/// What a way to count is played in.
-type Scene = fn(Way, &mut Random, &mut Tally) -> Result<(), String>;
-
-const SCENES: [(&str, Scene); 2] = [
-    ("lines with noise", on_lines),
-    ("lines with allowed noise", on_allowed_lines),
 ];
 
 /// Rounds in which each must be seen; the right way goes through all of them.
@@ -69,42 +55,27 @@ const ROUNDS: u64 = 3;
 /// Answers how many there are. The means by which they are made, with nothing made wrong, must not be seen: then a
 /// wrong one is seen for what is wrong with it.
 pub fn all_are_seen(seed: u64) -> Result<u64, String> {
-    for (place, scene) in SCENES {
-        play(scene, RIGHT, seed)
-            .map_err(|text| format!("{place}, a count with nothing wrong: {text}"))?;
-    }
-    let mut seen = 0;
-    for (table, scenes) in [(&WRONG[..], &SCENES[..]), (&WRONG_BESIDE, &SCENES[..1])] {
-        for &(name, way) in table {
-            is_seen(name, way, scenes, seed)?;
-            seen += 1;
+    play(RIGHT, seed).map_err(|text| format!("a count with nothing wrong: {text}"))?;
+    for (name, way) in WRONG {
+        if play(way, seed).is_ok() {
+            return Err(format!(
+                "lines with noise do not see what is wrong with: {name}"
+            ));
         }
     }
-    Ok(seen + wrong_asks::all_are_seen(seed)?)
+    Ok(WRONG.len() as u64 + wrong_asks::all_are_seen(seed)?)
 }
 
-/// Each of the scenes must see it.
-fn is_seen(name: &str, way: Way, scenes: &[(&str, Scene)], seed: u64) -> Result<(), String> {
-    for &(place, scene) in scenes {
-        if play(scene, way, seed).is_ok() {
-            return Err(format!("{place} do not see what is wrong with: {name}"));
-        }
-    }
-    Ok(())
-}
-
-fn play(scene: Scene, way: Way, seed: u64) -> Result<(), String> {
+fn play(way: Way, seed: u64) -> Result<(), String> {
     let mut random = Random::new(seed);
     let mut tally = Tally::default();
-    (0..ROUNDS).try_for_each(|_| scene(way, &mut random, &mut tally))
-}
-
-fn on_lines(way: Way, random: &mut Random, tally: &mut Tally) -> Result<(), String> {
-    noise::round(|device| Ok(Counter::new(device, way)), random, tally)
-}
-
-fn on_allowed_lines(way: Way, random: &mut Random, tally: &mut Tally) -> Result<(), String> {
-    allowed_noise::round(|device| Ok(Counter::new(device, way)), random, tally)
+    (0..ROUNDS).try_for_each(|_| {
+        noise::round(
+            |device| Ok(Counter::new(device, way)),
+            &mut random,
+            &mut tally,
+        )
+    })
 }
 
 /// Two of a bit's three votes are turned over: the vote is lost, and the frame comes out with other data or a flag, or
@@ -116,7 +87,7 @@ pub fn two_turned_over_are_seen(seed: u64) -> Result<u64, String> {
     for format in all_formats() {
         for bit in 0..u64::from(format.word_bits()) + 2 {
             for votes in [[0, 1], [0, 2], [1, 2]] {
-                are_seen(&format, bit, votes, &mut random)
+                is_seen(&format, bit, votes, &mut random)
                     .map_err(|text| format!("{format:?}, votes {votes:?} of bit {bit}: {text}"))?;
                 seen += 1;
             }
@@ -125,24 +96,19 @@ pub fn two_turned_over_are_seen(seed: u64) -> Result<u64, String> {
     Ok(seen)
 }
 
-fn are_seen(
+fn is_seen(
     format: &Format,
     bit: u64,
     votes: [usize; 2],
     random: &mut Random,
 ) -> Result<(), String> {
     let ubrr = random.below(3) as u16;
-    let setting = Setting {
-        format: *format,
-        ubrr,
-        bit: random.pick(&bits_at_limit(format, ubrr, 1)),
-    };
-    let device = setting.device(random);
-    let mut line = setting.line_to(&device);
+    let device = receiving_device(format, ubrr, random);
+    let sampling = Sampling::new(format, ubrr, device.usart.counter);
+    let length = random.pick(&bits_at_limit(format, ubrr, 1));
+    let mut line = NoisyLine::new(format, length, sampling);
     line.add_frame(random);
     votes.iter().for_each(|&vote| line.turn_over(bit, vote));
-    // A vote of two against one is split, whichever way it goes: the count does not give the frame away.
-    line.frames[0].frame.split_votes = 1;
     let seed = random.next();
     let [of_model, of_archive] = [
         play_line(&line, Counter::new(device, RIGHT), seed),

@@ -7,7 +7,6 @@ use crate::noisy_clocks::*;
 use crate::random::Random;
 use crate::stand_in::{Alone, StandIn};
 use crate::tally::Tally;
-use crate::waiting_clocks::RIGHT;
 
 const fn clock(clock: fn(&mut Device, u8) -> u8) -> StandIn {
     StandIn { clock, ..RIGHT }

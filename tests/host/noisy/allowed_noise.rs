@@ -1,8 +1,8 @@
-//! Part 10: lines with allowed noise (document 02, M-112): 'only voting samples, at most one of the three in each bit,
-//! and never the last vote of a stop bit. All other premises as they now stand.' The sender's bit is the shortest or
-//! the longest within the limits of the rate error, the line is high before, between and after its frames, and reads
-//! come so that none waits when a start is accepted (M-103). Exactly the line's frames come out, in order, with FE, DOR
-//! and UPE clear, each in time, and its split votes are 'the number of bits so hit': a number chosen here.
+//! Lines with allowed noise (document 02, M-112): 'only voting samples, at most one of the three in each bit, and never
+//! the last vote of a stop bit. All other premises as they now stand.' The sender's bit is the shortest or the longest
+//! within the limits of the rate error, the line is high before, between and after its frames, and reads come so that
+//! none waits when a start is accepted (M-103). Exactly the line's frames come out, in order, with FE, DOR and UPE
+//! clear, each in time, and its split votes are 'the number of bits so hit': a number chosen here.
 
 use crate::devices::{random_received, random_sender};
 use crate::frames::Program;
@@ -29,15 +29,13 @@ const ROUNDS_APART: u64 = 20;
 pub const STOP_VOTES: u64 = 2;
 
 pub fn run(rounds: u64, random: &mut Random, tally: &mut Tally) -> Result<(), String> {
-    tally.leaving_votes(|tally| {
-        (0..rounds).try_for_each(|number| {
-            match number % ROUNDS_APART {
-                0 => watched_round(random, tally)?,
-                1 => interrupted_round(random, tally)?,
-                _ => round(Pair::of, random, tally)?,
-            }
-            long_line(random, tally)
-        })
+    (0..rounds).try_for_each(|number| {
+        match number % ROUNDS_APART {
+            0 => watched_round(random, tally)?,
+            1 => interrupted_round(random, tally)?,
+            _ => round(Pair::of, random, tally)?,
+        }
+        long_line(random, tally)
     })
 }
 

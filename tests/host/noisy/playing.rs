@@ -9,7 +9,6 @@ use crate::model::level;
 use crate::noisy_lines::{NoisyLine, Sent};
 use crate::random::Random;
 use crate::tally::Tally;
-use crate::votes::COUNTS;
 
 /// How a line is read: from a receiver that holds these frames at first, and so slowly that frames may be lost, or so
 /// that 'none waits' when 'a start is accepted' (M-103).
@@ -22,14 +21,9 @@ pub struct Reading {
 /// What came out of a line.
 #[derive(Default)]
 pub struct Played {
-    /// Frames that came out without DOR, by the number of their split votes.
-    pub frames: [u64; COUNTS],
-    /// Frames that waited, those of them that a read moved in, those lost at an accepted start, and those that came
-    /// out with DOR.
+    /// Frames that waited, and those of them lost at an accepted start.
     pub waited: u64,
-    pub moved_in: u64,
     pub lost: u64,
-    pub after_loss: u64,
 }
 
 /// What has to be held, and behind it what waits.
@@ -69,14 +63,7 @@ impl Held {
 
     /// The oldest frame, if there is one, is read. M-103: 'a UDR0 read moves it in at once', the one that waits.
     fn take(&mut self) -> Option<Frame> {
-        self.played.moved_in += self.one_waits() as u64;
-        let frame = self.frames.pop_front();
-        match frame {
-            Some(Frame { dor: true, .. }) => self.played.after_loss += 1,
-            Some(frame) => self.played.frames[frame.split_votes as usize] += 1,
-            None => (),
-        }
-        frame
+        self.frames.pop_front()
     }
 }
 

@@ -1,9 +1,19 @@
-//! Clocks of a receiver, and a read, that are wrong on purpose with noise (wrong_receivers.rs). They are made of the
-//! model; what is not wrong on purpose, the count of split votes mostly, is right.
+//! Clocks of a receiver, and a read, that are wrong on purpose with noise (wrong_receivers.rs), and the stand-in with
+//! nothing wrong. They are made of the model; what is not wrong on purpose, the count of split votes mostly, is right.
 
 use crate::model::receiver::{Line, Received, Receiver, Receiving};
+use crate::model::record::decode;
 use crate::model::{address, level, Device};
+use crate::stand_in::StandIn;
 use crate::votes::{kind_of, DATA, PARITY, START, STOP};
+
+pub const RIGHT: StandIn = StandIn {
+    decode,
+    clock: Device::clock,
+    read: Device::read,
+    write: Device::write,
+    split_votes: Device::split_votes,
+};
 
 /// The last vote of a bit.
 #[derive(Clone, Copy)]
