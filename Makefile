@@ -35,7 +35,7 @@ demo:
 	@echo "trace: target/demo.trace"
 	@said=$$(target/bin/replay target/demo.trace); echo "replay of the trace: $$said"; [ "$$said" = ok ]
 
-# Proves every crate from nothing, tries the must-fail edits, runs the programs, then the host tests.
+# rt ci, which proves every crate, tries the must-fail edits and runs the programs; then the host tests.
 test:
 	@bash tests/run
 
