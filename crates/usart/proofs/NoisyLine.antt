@@ -6,18 +6,17 @@ use Prim.Native.Nat.{ℕ, zero, suc, ◌+◌, ◌-◌, ◌*◌, ◌^◌, ◌≤�
 use native.Mathlib.Nat.{mul-le-mul_right, mod-eq_of_lt}
 use native.Mathlib.Omega.{arith}
 use lib.ListN.{length}
-use borrow.Author.Tests.{le-ltb}
 use Rattle.frame.specs.Format.{data_bits, word_bits, first_vote}
 use Rattle.frame.specs.Word.{data_of, word_of, parity_error}
 use Rattle.frame.specs.declared.format.Format.{Format}
 use Rattle.frame.proofs.WordLaws.{data-word, parity-right}
-use Rattle.usart.specs.Queue.{waiting_in, kept_in, marked_of, stored_in, started_of, taken_from}
+use Rattle.usart.specs.Queue.{kept_in, marked_of, started_of, taken_from}
 use Rattle.usart.specs.Receiver.{frame_of, put_of, receiver_of, listened_of}
 use Rattle.usart.specs.Sampler.{sampler_of}
 use Rattle.usart.specs.Unit.{clock_of}
 use Rattle.usart.specs.Read.{read_of}
 use Rattle.usart.specs.Event.{Event, clock, write, read, vector, next_of, final_of, is_udr0, OnlyData, levels_of}
-use Rattle.usart.specs.Line.{Sent, line_level, Fits, EndedBy, Shows}
+use Rattle.usart.specs.Line.{Sent, line_level, Fits, Shows}
 use Rattle.usart.specs.Noise.{Noise, Allowed, turn, noisy_level, no_noise}
 use Rattle.usart.specs.Votes.{Cast, cast_in, cast_by, votes_of, votes_on}
 use Rattle.usart.specs.Receiving.{held_by, waiting_by, is_start, outcome_at, NoneWaits, LineOn, Hears, Seen, seen_in, taken_by, reads_of}
@@ -33,7 +32,6 @@ use Rattle.usart.specs.declared.sampler.Outcome.TheVariants.{Nothing, Started, C
 use Rattle.usart.specs.declared.sampler.Sampled.{Sampled}
 use Rattle.usart.specs.declared.queue.Frame.{Frame}
 use Rattle.usart.specs.declared.queue.Places.{Places}
-use Rattle.usart.specs.declared.queue.Places.TheVariants.{Empty, One, Two, Three}
 use Rattle.usart.specs.declared.queue.Queue.{Queue}
 use Rattle.usart.specs.declared.receiver.Receiver.{Receiver}
 use Rattle.usart.specs.declared.unit.Usart.{Usart}
@@ -43,30 +41,14 @@ use Rattle.usart.proofs.Rates.{Rates, rates, tick-short}
 use Rattle.usart.proofs.LineLaws.{From, spaced-from, past}
 use Rattle.usart.proofs.TickLaws.{Phase, phase-first, phase-tick, phase-wait}
 use Rattle.usart.proofs.NoiseLaws.{turned_none, none_allowed, bits_none, turned-past}
+use Rattle.usart.proofs.ReceivingLine.{AllEnded, all-ended, shows_same, kept_by, none_came, comes}
 use Rattle.usart.proofs.NoisyTick.{Inv, GoodFor, keep, under-way, tick-good}
 use Rattle.usart.proofs.VotingLaws.{ahead, ahead_by, votes-tick}
 use Rattle.usart.proofs.ReadLaws.{read_keeps, taken-kept}
 use Rattle.usart.proofs.EventLaws.{OnlySender, only-write, only-vector}
 use Rattle.usart.proofs.ClockLaws.{clocked_as, ticked_as, waited_as, clock-tick, clock-wait, listened-on, outcome-tick}
-use Rattle.usart.proofs.ClockLaws.{cast-tick, cast-wait, one-waits, stored-kept, started-same}
+use Rattle.usart.proofs.ClockLaws.{cast-tick, cast-wait, stored-kept, started-same}
 use Rattle.usart.proofs.WaitingLaws.{WaitingFor, none-waiting, started_none, taken_none, waiting-tick}
-
--- every frame has ended by clock J
-abbrev AllEnded : ℕ → ℕ → ℕ → ℕ → List Sent → Type 0
-AllEnded D P Q J [] = Unit {0}
-AllEnded D P Q J (s ∷ ss) = (s.start * Q + (D + 2) * P ≤ J * Q) × AllEnded D P Q J ss
-
--- which the last one's end gives
-all-ended : (D P Q J lo : ℕ) (ss : List Sent) → From D P Q lo ss → EndedBy D P Q J ss → AllEnded D P Q J ss
-all-ended D P Q J lo [] fr en = tt
-all-ended D P Q J lo (s ∷ []) fr en = (en, tt)
-all-ended D P Q J lo (s ∷ t ∷ ts) fr en =
-    let rest = all-ended D P Q J (s.start * Q + (D + 2) * P) (t ∷ ts) fr.1 en in
-    (omega (arith, fr.1.0, rest.0), rest)
-
-shows_same : (w w' : ℕ → Bool) (j : ℕ) (ls : List Bool) → ((i : ℕ) → j ≤ i → w i ≡ w' i) → Shows w j ls → Shows w' j ls
-shows_same w w' j [] h o = o
-shows_same w w' j (l ∷ ls) h o = (o.0 ∙ h j (omega arith), shows_same w w' (suc j) ls (λ i t. h i (omega arith)) o.1)
 
 -- a frame that completes with its word and a high stop bit is the line's, and clean
 seen_clean : (f : Format) (s : Sent) (word : ℕ) (stop : Bool) (splits : ℕ) → s.«data» < 2 ^ data_bits f.size → word ≡ word_of f s.«data»
@@ -75,10 +57,6 @@ seen_clean f s word stop splits h ew es =
     let d : data_of f word ≡ s.«data» = ap (data_of f) ew ∙ data-word f s.«data» ∙ mod-eq_of_lt h in
     let p : parity_error f word ≡ false = ap (parity_error f) ew ∙ parity-right f s.«data» in
     rw (d, p, es)
-
--- those held, then one that waits
-abbrev kept_by : Usart → List Frame
-kept_by u = kept_in u.receiver.queue.places
 
 module _ (f : Format) (c : Baud) (noise : Noise) (P Q : ℕ) (R : Rates (first_vote f) (c.ubrr + 1) P Q (word_bits f)) (allowed : Allowed (word_bits f) noise) where
   abbrev D : ℕ
@@ -225,9 +203,6 @@ module _ (f : Format) (c : Baud) (noise : Noise) (P Q : ℕ) (R : Rates (first_v
         waiting = w;
       })
 
-  none_came : (j : ℕ) (p q : Places) → kept_in q ≡ kept_in p → arrived_in j p q ≡ []
-  none_came j p q e = rw (le-ltb (length (kept_in p)) (length (kept_in q)) (omega (arith, ap length e)))
-
   -- a clock that leads to v, casts w and leaves the queue as it was
   passed : (es : List Event) → Claim es → (fs : List Sent) (lo j : ℕ) (w : List Cast) (u v : Usart) → v.receiver.queue ≡ u.receiver.queue
       → w ++ votes_ahead v fs ≡ votes_ahead u fs → Stands fs lo (suc j) v → Asked fs (suc j) v es → Then es fs (suc j) (arrived_by j u v) w u v
@@ -236,17 +211,9 @@ module _ (f : Format) (c : Baud) (noise : Noise) (P Q : ℕ) (R : Rates (first_v
       let d = ih fs lo (suc j) v h a in
       record {
         frames = d.frames ∙ ap (λ (x : List Frame). map seen_in x ++ seen fs) kept;
-        in_time = rw (none_came j u.receiver.queue.places v.receiver.queue.places kept) d.in_time;
+        in_time = rw (none_came f c.ubrr P Q R j u.receiver.queue.places v.receiver.queue.places kept) d.in_time;
         votes = ap (λ (x : List Cast). w ++ x) d.votes ∙ vs;
       }
-
-  -- a frame that completes while none waits is held if a place is free, else it waits
-  comes : (j : ℕ) (p : Places) (lost : Bool) (x : Frame) (s : Sent) (ss : List Sent) (bs : List Arrival) → waiting_in p ≡ [] → s.start ≤ j
-      → (j - s.start) * Q < (D + 2) * P → InTime D P Q bs ss → InTime D P Q (arrived_in j p (stored_in p lost x).places ++ bs) (s ∷ ss)
-  comes j Empty lost x s ss bs w b t r = (record { began = b; in_time = t; held = λ _. refl; waits = λ e. sym e }, r)
-  comes j (One a) lost x s ss bs w b t r = (record { began = b; in_time = t; held = λ _. refl; waits = λ e. sym e }, r)
-  comes j (Two a d) lost x s ss bs w b t r = (record { began = b; in_time = t; held = λ e. e; waits = λ _. refl }, r)
-  comes j (Three a d e) lost x s ss bs w b t r = absurd (one-waits e w)
 
   -- a tick that leads to v and casts y, with its outcome
   after : (es : List Event) → Claim es → (fs : List Sent) (lo j : ℕ) (u v : Usart) (p : Sampler) (o : Outcome) (y : List Cast)
@@ -297,7 +264,7 @@ module _ (f : Format) (c : Baud) (noise : Noise) (P Q : ℕ) (R : Rates (first_v
         in_time =
             subst (λ (z : Places). InTime D P Q (arrived_in j q.places z ++ arrivals_of (suc j) v es) (s ∷ ss))
             (sym (ap (λ (z : Usart). z.receiver.queue.places) eq))
-            (comes j q.places q.lost (frame_of f word stop splits) s ss (arrivals_of (suc j) v es) w.0 done.began done.in_time d.in_time);
+            (comes f c.ubrr P Q R j q.places q.lost (frame_of f word stop splits) s ss (arrivals_of (suc j) v es) w.0 done.began done.in_time d.in_time);
         votes = ap (λ (z : List Cast). y ++ z) (d.votes ∙ ap (λ (z : Usart). votes_ahead z ss) eq) ∙ vs;
       }
 

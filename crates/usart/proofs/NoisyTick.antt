@@ -5,15 +5,12 @@ use mathlib.Core.Bool.{Bool, true, false, not}
 use mathlib.Core.List.{List, [], ◌∷◌}
 use mathlib.Core.Logic.{⊎_elim}
 use Prim.Native.Nat.{ℕ, suc, ◌+◌, ◌-◌, ◌*◌, ◌/◌, ◌%◌, ◌^◌, ◌≤◌, ◌<◌}
-use native.Mathlib.Nat.{mul-le-mul_right, lt_of_mul-lt-mul_right, eq-or-lt_of_le, mod-one, mod-eq_of_lt, div-eq_of_lt}
-use native.Mathlib.Numerals.{one-add}
+use native.Mathlib.Nat.{mul-le-mul_right, lt_of_mul-lt-mul_right, eq-or-lt_of_le, mod-one, div-eq_of_lt}
 use native.Mathlib.Decide.{dec_lt}
 use native.Mathlib.Omega.{arith}
 use lib.Dec.{leb, ltb, eqb}
-use lib.Pow.{mod-pow-add, pow-add}
 use borrow.Author.Tests.{le-leb, ltb-true, ltb-false, leb-true, leb-false, eqb-true, eqb-false, ne_eqb}
 use Rattle.choice.specs.Pick.{digit}
-use Rattle.choice.proofs.Digits.{digit-odd}
 use Rattle.choice.proofs.Picks.{pick_ind}
 use Rattle.frame.specs.Format.{samples, first_vote, word_bits}
 use Rattle.frame.specs.Vote.{vote_of}
@@ -40,28 +37,10 @@ use Rattle.usart.specs.declared.sampler.Sampled.{Sampled}
 use Rattle.usart.proofs.ShiftLaws.{shift-digit}
 use Rattle.usart.proofs.Rates.{Rates, tick-short, vote-low, vote-high, vote-bit}
 use Rattle.usart.proofs.LineLaws.{From, before, within, quiet}
+use Rattle.usart.proofs.OneTick.{part_of, part-more, part-all}
 use Rattle.usart.proofs.NoiseLaws.{bits-hit-le, bits-hit-more, eqb-alike, turned-idle, turned-vote}
 use Rattle.usart.proofs.TallyLaws.{tally-digit, voted-before, voted-after, voted-on, below-most}
 use Rattle.usart.proofs.TickLaws.{Phase, tick_is, tick-from}
-
--- k bits of the word w, of D bits, shifted in at the top
-abbrev pub part_of : ℕ → ℕ → ℕ → ℕ
-part_of D w k = w % 2 ^ k * 2 ^ (D - k)
-
--- one more bit
-part-more : (D w k : ℕ) (m : Bool) → k < D → m ≡ eqb (w / 2 ^ k % 2) 1 → part_of D w k / 2 + digit m * 2 ^ (D - 1) ≡ part_of D w (suc k)
-part-more D w k m h em =
-    let E : ℕ = D - suc k in
-    let p1 : 2 ^ (D - k) ≡ 2 * 2 ^ E = ap (λ (n : ℕ). 2 ^ n) (omega arith) ∙ pow-add 2 1 E in
-    let p2 : 2 ^ (D - 1) ≡ 2 ^ k * 2 ^ E = ap (λ (n : ℕ). 2 ^ n) (omega arith) ∙ pow-add 2 k E in
-    let q : w % 2 ^ suc k ≡ w / 2 ^ k % 2 * 2 ^ k + w % 2 ^ k = rw (← one-add k) (mod-pow-add w 1 k) in
-    let dm : digit m ≡ w / 2 ^ k % 2 = rw em (digit-odd (w / 2 ^ k)) in
-    rw (p1, p2, q, dm) (omega arith)
-
-part-all : (D w : ℕ) → w < 2 ^ D → part_of D w D ≡ w
-part-all D w h =
-    let e : D - D ≡ 0 = omega arith in
-    rw (e, mod-eq_of_lt h) (omega arith)
 
 -- in step with the frame s, whose first low sample was at its first tick, before clock j and k clocks before the next
 -- tick; the votes cast and counted are as noise leaves them

@@ -42,7 +42,7 @@ abbrev pub part_of : ℕ → ℕ → ℕ → ℕ
 part_of D w k = w % 2 ^ k * 2 ^ (D - k)
 
 -- one more bit
-part-more : (D w k : ℕ) (m : Bool) → k < D → m ≡ eqb (w / 2 ^ k % 2) 1 → part_of D w k / 2 + digit m * 2 ^ (D - 1) ≡ part_of D w (suc k)
+pub part-more : (D w k : ℕ) (m : Bool) → k < D → m ≡ eqb (w / 2 ^ k % 2) 1 → part_of D w k / 2 + digit m * 2 ^ (D - 1) ≡ part_of D w (suc k)
 part-more D w k m h em =
     let E : ℕ = D - suc k in
     let p1 : 2 ^ (D - k) ≡ 2 * 2 ^ E = ap (λ (n : ℕ). 2 ^ n) (omega arith) ∙ pow-add 2 1 E in
@@ -51,7 +51,7 @@ part-more D w k m h em =
     let dm : digit m ≡ w / 2 ^ k % 2 = rw em (digit-odd (w / 2 ^ k)) in
     rw (p1, p2, q, dm) (omega arith)
 
-part-all : (D w : ℕ) → w < 2 ^ D → part_of D w D ≡ w
+pub part-all : (D w : ℕ) → w < 2 ^ D → part_of D w D ≡ w
 part-all D w h =
     let e : D - D ≡ 0 = omega arith in
     rw (e, mod-eq_of_lt h) (omega arith)

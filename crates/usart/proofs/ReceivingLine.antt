@@ -47,19 +47,19 @@ use Rattle.usart.proofs.ClockLaws.{one-waits, stored-kept, started-same}
 use Rattle.usart.proofs.WaitingLaws.{WaitingFor, none-waiting, started_none, taken_none, waiting-tick}
 
 -- every frame has ended by clock J
-abbrev AllEnded : ℕ → ℕ → ℕ → ℕ → List Sent → Type 0
+abbrev pub AllEnded : ℕ → ℕ → ℕ → ℕ → List Sent → Type 0
 AllEnded D P Q J [] = Unit {0}
 AllEnded D P Q J (s ∷ ss) = (s.start * Q + (D + 2) * P ≤ J * Q) × AllEnded D P Q J ss
 
 -- which the last one's end gives
-all-ended : (D P Q J lo : ℕ) (ss : List Sent) → From D P Q lo ss → EndedBy D P Q J ss → AllEnded D P Q J ss
+pub all-ended : (D P Q J lo : ℕ) (ss : List Sent) → From D P Q lo ss → EndedBy D P Q J ss → AllEnded D P Q J ss
 all-ended D P Q J lo [] fr en = tt
 all-ended D P Q J lo (s ∷ []) fr en = (en, tt)
 all-ended D P Q J lo (s ∷ t ∷ ts) fr en =
     let rest = all-ended D P Q J (s.start * Q + (D + 2) * P) (t ∷ ts) fr.1 en in
     (omega (arith, fr.1.0, rest.0), rest)
 
-shows_same : (w w' : ℕ → Bool) (j : ℕ) (ls : List Bool) → ((i : ℕ) → j ≤ i → w i ≡ w' i) → Shows w j ls → Shows w' j ls
+pub shows_same : (w w' : ℕ → Bool) (j : ℕ) (ls : List Bool) → ((i : ℕ) → j ≤ i → w i ≡ w' i) → Shows w j ls → Shows w' j ls
 shows_same w w' j [] h o = o
 shows_same w w' j (l ∷ ls) h o = (o.0 ∙ h j (omega arith), shows_same w w' (suc j) ls (λ i t. h i (omega arith)) o.1)
 
@@ -72,7 +72,7 @@ seen_clean f s word stop splits h ew es ec =
     rw (d, p, es, ec)
 
 -- those held, then one that waits
-abbrev kept_by : Usart → List Frame
+abbrev pub kept_by : Usart → List Frame
 kept_by u = kept_in u.receiver.queue.places
 
 module _ (f : Format) (ubrr P Q : ℕ) (R : Rates (first_vote f) (ubrr + 1) P Q (word_bits f)) where
@@ -202,7 +202,7 @@ module _ (f : Format) (ubrr P Q : ℕ) (R : Rates (first_vote f) (ubrr + 1) P Q 
         waiting = w;
       })
 
-  none_came : (j : ℕ) (p q : Places) → kept_in q ≡ kept_in p → arrived_in j p q ≡ []
+  pub none_came : (j : ℕ) (p q : Places) → kept_in q ≡ kept_in p → arrived_in j p q ≡ []
   none_came j p q e = rw (le-ltb (length (kept_in p)) (length (kept_in q)) (omega (arith, ap length e)))
 
   -- a clock that leads to v and leaves the queue as it was
@@ -216,7 +216,7 @@ module _ (f : Format) (ubrr P Q : ℕ) (R : Rates (first_vote f) (ubrr + 1) P Q 
       )
 
   -- a frame that completes while none waits is held if a place is free, else it waits
-  comes : (j : ℕ) (p : Places) (lost : Bool) (x : Frame) (s : Sent) (ss : List Sent) (bs : List Arrival) → waiting_in p ≡ [] → s.start ≤ j
+  pub comes : (j : ℕ) (p : Places) (lost : Bool) (x : Frame) (s : Sent) (ss : List Sent) (bs : List Arrival) → waiting_in p ≡ [] → s.start ≤ j
       → (j - s.start) * Q < (D + 2) * P → InTime D P Q bs ss → InTime D P Q (arrived_in j p (stored_in p lost x).places ++ bs) (s ∷ ss)
   comes j Empty lost x s ss bs w b t r = (record { began = b; in_time = t; held = λ _. refl; waits = λ e. sym e }, r)
   comes j (One a) lost x s ss bs w b t r = (record { began = b; in_time = t; held = λ _. refl; waits = λ e. sym e }, r)
