@@ -53,15 +53,17 @@ pub struct Counter {
 }
 
 impl Counter {
-    /// A counter of an idle receiver that holds no frame.
+    /// A counter of an idle receiver. Of frames at first the counts are right.
     pub fn new(device: Device, way: Way) -> Counter {
+        let receiver = device.usart.receiver;
+        let frames = [receiver.oldest, receiver.second, receiver.waiting];
         Counter {
             device,
             way,
             ended: Ended::Completed(0),
             count: 0,
             samples: Vec::new(),
-            held: Vec::new(),
+            held: frames.iter().flatten().map(|f| f.split_votes).collect(),
         }
     }
 

@@ -76,7 +76,7 @@ pub fn random_counter(usart: &Usart, random: &mut Random) -> u16 {
     }
 }
 
-fn random_sender(format: &Format, random: &mut Random) -> Sender {
+pub fn random_sender(format: &Format, random: &mut Random) -> Sender {
     let word = format.word_of(random.next() as u16 & format.data_mask());
     let shifting = Shifting {
         bit: random.between(0, format.last_bit() as u64) as u8,
@@ -154,7 +154,7 @@ fn random_split_votes(most: u8, random: &mut Random) -> u8 {
     random.pick(&[0, most, any, any])
 }
 
-fn random_received(random: &mut Random) -> Received {
+pub fn random_received(random: &mut Random) -> Received {
     Received {
         data: random.below(512) as u16,
         fe: random.flip(),

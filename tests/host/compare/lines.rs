@@ -129,7 +129,7 @@ fn line_inside(
 }
 
 /// All frames unread are there: two are held, and one more waits.
-fn expect_held(pair: &Pair, unread: usize) -> Result<(), String> {
+pub fn expect_held(pair: &Pair, unread: usize) -> Result<(), String> {
     let [held, waits] = [layout::FRAMES_HELD, layout::FRAME_WAITS].map(|place| pair.record[place]);
     let expected = [unread.min(PLACES), unread.saturating_sub(PLACES)];
     if [held, waits].map(usize::from) != expected {

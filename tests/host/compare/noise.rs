@@ -18,9 +18,9 @@ use crate::sampling::Sampling;
 use crate::tally::Tally;
 
 /// UBRR and the frames of a line with it.
-const LENGTHS: [(u16, usize); 4] = [(0, 7), (1, 6), (2, 6), (7, 4)];
+pub const LENGTHS: [(u16, usize); 4] = [(0, 7), (1, 6), (2, 6), (7, 4)];
 /// So many lines in a hundred are read so slowly that frames are lost.
-const SLOWLY_READ: u64 = 15;
+pub const SLOWLY_READ: u64 = 15;
 
 pub fn run(rounds: u64, random: &mut Random, tally: &mut Tally) -> Result<(), String> {
     // What is seen of votes elsewhere must be complete without these lines.
@@ -52,7 +52,7 @@ pub fn round<P: Program>(
 }
 
 /// A bit at the limits of the rate error or between them.
-fn random_bit(format: &Format, ubrr: u16, random: &mut Random) -> Bit {
+pub fn random_bit(format: &Format, ubrr: u16, random: &mut Random) -> Bit {
     let q = random.between(200, 5000);
     let q = random.pick(&[1, q]);
     let [shortest, longest] = bits_at_limit(format, ubrr, q);
@@ -61,7 +61,7 @@ fn random_bit(format: &Format, ubrr: u16, random: &mut Random) -> Bit {
 }
 
 /// Frames with noise in none, all or any number of their bits.
-fn random_line(frames: usize, mut line: NoisyLine, random: &mut Random) -> NoisyLine {
+pub fn random_line(frames: usize, mut line: NoisyLine, random: &mut Random) -> NoisyLine {
     for _ in 0..frames {
         line.add_gap(random);
         line.add_frame(random);
@@ -79,22 +79,22 @@ const PLACES: usize = 2;
 
 /// What has to be held, and behind it what waits.
 #[derive(Default)]
-struct Held {
-    frames: VecDeque<Frame>,
+pub struct Held {
+    pub frames: VecDeque<Frame>,
     lost: bool,
 }
 
 impl Held {
     /// M-103: 'with both places full a completed frame waits', and after a loss 'the next frame that completes carries
     /// DOR'.
-    fn enter(&mut self, sent: &Sent) {
+    pub fn enter(&mut self, sent: &Sent) {
         self.frames.push_back(Frame {
             dor: std::mem::take(&mut self.lost),
             ..sent.frame
         });
     }
 
-    fn one_waits(&self) -> bool {
+    pub fn one_waits(&self) -> bool {
         self.frames.len() > PLACES
     }
 
@@ -107,7 +107,7 @@ impl Held {
         }
     }
 
-    fn oldest(&self) -> Option<Frame> {
+    pub fn oldest(&self) -> Option<Frame> {
         self.frames.front().copied()
     }
 
@@ -126,16 +126,16 @@ impl Held {
 }
 
 /// A line under way: what has to be held, and the clocks that have passed.
-struct Playing<'a, P> {
-    line: &'a NoisyLine,
-    program: &'a mut P,
-    held: Held,
-    clock: usize,
+pub struct Playing<'a, P> {
+    pub line: &'a NoisyLine,
+    pub program: &'a mut P,
+    pub held: Held,
+    pub clock: usize,
 }
 
 impl<P: Program> Playing<'_, P> {
     /// Passes clocks up to this number of them. The frame's start is accepted with the clock of its last vote.
-    fn pass(&mut self, clock: usize, sent: &Sent, tally: &mut Tally) -> Result<(), String> {
+    pub fn pass(&mut self, clock: usize, sent: &Sent, tally: &mut Tally) -> Result<(), String> {
         self.program
             .pass_levels(&self.line.levels[self.clock..clock], tally)?;
         if (self.clock..clock).contains(&sent.accepted) {
@@ -145,7 +145,7 @@ impl<P: Program> Playing<'_, P> {
         Ok(())
     }
 
-    fn read(&mut self, tally: &mut Tally) -> Result<(), String> {
+    pub fn read(&mut self, tally: &mut Tally) -> Result<(), String> {
         self.held.read(self.program, tally)
     }
 

@@ -29,9 +29,9 @@ pub struct Sent {
 }
 
 pub struct NoisyLine {
-    format: Format,
-    bit: Bit,
-    sampling: Sampling,
+    pub format: Format,
+    pub bit: Bit,
+    pub sampling: Sampling,
     pub levels: Vec<u8>,
     pub frames: Vec<Sent>,
     pub false_starts: u64,
@@ -59,8 +59,12 @@ impl NoisyLine {
 
     /// Adds a frame of random data, without noise.
     pub fn add_frame(&mut self, random: &mut Random) {
-        let start = self.levels.len() as u64;
         let data = random.next() as u16 & self.format.data_mask();
+        self.add_frame_of(data, random);
+    }
+
+    pub fn add_frame_of(&mut self, data: u16, random: &mut Random) {
+        let start = self.levels.len() as u64;
         let word = self.format.word_of(data);
         for t in 0..self.bit.frame_clocks(&self.format) {
             // The other pins carry anything: the SPI must not matter.
@@ -129,7 +133,7 @@ impl NoisyLine {
     }
 
     /// What becomes of the last frame where so many votes of a bit are turned over.
-    fn note_votes(&mut self, bit: u64, votes: usize) {
+    pub fn note_votes(&mut self, bit: u64, votes: usize) {
         let format = &self.format;
         let Some(Sent { frame, .. }) = self.frames.last_mut() else {
             return;
@@ -150,7 +154,7 @@ impl NoisyLine {
     }
 
     /// A tick comes after the last frame is complete and before its stop bit has ended.
-    fn tick_is_left(&self) -> bool {
+    pub fn tick_is_left(&self) -> bool {
         let turn = self.sampling.turn as usize;
         self.frames
             .last()

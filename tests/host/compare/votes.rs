@@ -11,7 +11,7 @@ pub const START: usize = 0;
 pub const DATA: usize = 1;
 pub const PARITY: usize = 2;
 pub const STOP: usize = 3;
-const BITS: [&str; 4] = ["start", "data", "parity", "stop"];
+pub const BITS: [&str; 4] = ["start", "data", "parity", "stop"];
 
 /// Numbers of split votes that a frame can have.
 pub const COUNTS: usize = SPLIT_VOTES_LAST as usize + 1;

@@ -15,10 +15,10 @@ const MARKS: [&str; 4] = ["FE", "UPE", "DOR", "split votes"];
 #[derive(Default, Clone, Copy)]
 pub struct Waits {
     /// Frames that completed with both places full, and those of them that carried each mark.
-    waited: u64,
+    pub waited: u64,
     with: [u64; 4],
     /// What became of them: moved in by a read, lost at an accepted start, dropped by RXEN.
-    moved_in: u64,
+    pub moved_in: u64,
     lost: u64,
     dropped: u64,
     /// Moved in by a read between the first low sample and the last vote of the next start.
@@ -68,7 +68,7 @@ impl Waits {
         self.moved_in_start += before.receiver.busy() as u64;
     }
 
-    fn rows(&self) -> [(String, u64); 11] {
+    pub fn rows(&self) -> [(String, u64); 11] {
         let [fe, upe, dor, split_votes] = MARKS.map(|mark| format!("waiting frames with {mark}"));
         let [with_fe, with_upe, with_dor, with_split_votes] = self.with;
         [

@@ -19,7 +19,7 @@ use crate::wrong_asks;
 use crate::wrong_ways::*;
 
 #[rustfmt::skip] // a line each
-const WRONG: [(&str, Way); 27] = [
+pub const WRONG: [(&str, Way); 27] = [
     ("not cleared for the next frame", Way { begin: after_any, ..RIGHT }),
     ("a dropped start's vote goes to the next frame", Way { begin: after_dropped, ..RIGHT }),
     ("a lost frame's count goes to the next frame", Way { accept: hand_on, ..RIGHT }),
@@ -50,7 +50,7 @@ const WRONG: [(&str, Way); 27] = [
 ];
 
 /// Rounds in which each must be seen; the right way goes through all of them.
-const ROUNDS: u64 = 3;
+pub const ROUNDS: u64 = 3;
 
 /// Answers how many there are. The means by which they are made, with nothing made wrong, must not be seen: then a
 /// wrong one is seen for what is wrong with it.

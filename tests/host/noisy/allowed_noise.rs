@@ -4,8 +4,9 @@
 //! none waits when a start is accepted (M-103). Exactly the line's frames come out, in order, with FE, DOR and UPE
 //! clear, each in time, and its split votes are 'the number of bits so hit': a number chosen here.
 
+use crate::allowed_lines::{AllowedLine, Chosen};
 use crate::devices::{random_received, random_sender};
-use crate::frames::Program;
+use crate::held::Holder;
 use crate::interrupted::Interrupted;
 use crate::model::frame::Format;
 use crate::model::receiver::Received;
@@ -16,7 +17,7 @@ use crate::playing::{self, Reading};
 use crate::random::Random;
 use crate::rates::{all_formats, bits_at_limit, rate_limit, Bit};
 use crate::settings::{self, Setting};
-use crate::tally::Tally;
+use crate::totals::Totals;
 use crate::watched::Watched;
 
 /// UBRR and the frames of a line with it.
@@ -28,14 +29,14 @@ const ROUNDS_APART: u64 = 20;
 /// The votes of a stop bit that may be turned over, from the first: 'never the last vote of a stop bit'.
 pub const STOP_VOTES: u64 = 2;
 
-pub fn run(rounds: u64, random: &mut Random, tally: &mut Tally) -> Result<(), String> {
+pub fn run(rounds: u64, random: &mut Random, totals: &mut Totals) -> Result<(), String> {
     (0..rounds).try_for_each(|number| {
         match number % ROUNDS_APART {
-            0 => watched_round(random, tally)?,
-            1 => interrupted_round(random, tally)?,
-            _ => round(Pair::of, random, tally)?,
+            0 => watched_round(random, totals)?,
+            1 => interrupted_round(random, totals)?,
+            _ => round(Pair::of, random, totals)?,
         }
-        long_line(random, tally)
+        long_line(random, totals)
     })
 }
 
@@ -50,44 +51,46 @@ fn each_case(
 }
 
 /// The lines are received by a program that is made of a device.
-pub fn round<P: Program>(
+pub fn round<P: Holder>(
     make: impl Fn(Device) -> Result<P, String>,
     random: &mut Random,
-    tally: &mut Tally,
+    totals: &mut Totals,
 ) -> Result<(), String> {
     each_case(random, |case, random| {
-        case.play(&mut make(case.device)?, random, tally)
+        case.play(&mut make(case.device)?, random, totals)
     })
 }
 
-fn watched_round(random: &mut Random, tally: &mut Tally) -> Result<(), String> {
+fn watched_round(random: &mut Random, totals: &mut Totals) -> Result<(), String> {
     each_case(random, |case, random| {
         let mut watched = Watched::new(Pair::of(case.device)?, &case.line);
-        case.play(&mut watched, random, tally)?;
-        watched.check(&case.line, tally)?;
+        case.play(&mut watched, random, totals)?;
+        watched.check(&case.line, &mut totals.allowed)?;
         watched.sees_other_lines(&case.line, random)
     })
 }
 
-fn interrupted_round(random: &mut Random, tally: &mut Tally) -> Result<(), String> {
+fn interrupted_round(random: &mut Random, totals: &mut Totals) -> Result<(), String> {
     each_case(random, |case, random| {
         let mut interrupted = Interrupted::new(Pair::of(case.device)?, random.next());
-        case.play(&mut interrupted, random, tally)
+        case.play(&mut interrupted, random, totals)?;
+        totals.allowed.other_calls += interrupted.calls;
+        Ok(())
     })
 }
 
-fn long_line(random: &mut Random, tally: &mut Tally) -> Result<(), String> {
+fn long_line(random: &mut Random, totals: &mut Totals) -> Result<(), String> {
     let (least, greatest, frames) = random.pick(&LONG);
     let format = random.pick(&all_formats());
     let ubrr = random.between(least, greatest) as u16;
     let bit = bit_at_limit(&format, ubrr, random);
     let setting = Setting { format, ubrr, bit };
     let case = Case::random(&setting, frames, random);
-    case.play(&mut Pair::of(case.device)?, random, tally)
+    case.play(&mut Pair::of(case.device)?, random, totals)
         .map_err(|text| format!("{setting:?}: {text}"))?;
     let is_larger = LENGTHS.iter().all(|&(other, _)| other < ubrr);
-    tally.allowed.larger_ubrr += is_larger as u64;
-    tally.allowed.long_lines += !is_larger as u64;
+    totals.allowed.larger_ubrr += is_larger as u64;
+    totals.allowed.long_lines += !is_larger as u64;
     Ok(())
 }
 
@@ -101,9 +104,8 @@ fn bit_at_limit(format: &Format, ubrr: u16, random: &mut Random) -> Bit {
 
 /// A line, and a device that receives it.
 struct Case {
-    setting: Setting,
     device: Device,
-    line: NoisyLine,
+    line: AllowedLine,
     reading: Reading,
 }
 
@@ -115,11 +117,13 @@ impl Case {
         let mut device = setting.holding_device(&held, false, random);
         device.usart.sender = random_sender(&setting.format, random);
         let mut line = setting.line_to(&device);
-        (0..frames).for_each(|_| add_frame(&mut line, random));
+        let chosen = (0..frames).map(|_| add_frame(&mut line, random)).collect();
         Case {
-            setting: *setting,
             device,
-            line,
+            line: AllowedLine {
+                noisy: line,
+                chosen,
+            },
             reading: Reading {
                 at_first: held.into_iter().map(Into::into).collect(),
                 is_slow: false,
@@ -129,45 +133,45 @@ impl Case {
 
     fn play(
         &self,
-        program: &mut impl Program,
+        program: &mut impl Holder,
         random: &mut Random,
-        tally: &mut Tally,
+        totals: &mut Totals,
     ) -> Result<(), String> {
-        for sent in &self.line.frames {
-            self.expect_allowed(sent)?;
-            self.expect_in_time(sent)?;
+        for (sent, chosen) in self.line.frames() {
+            self.expect_allowed(sent, chosen)?;
+            self.expect_in_time(sent, chosen)?;
         }
-        let played = playing::play(&self.line, &self.reading, program, random, tally)?;
+        let (line, tally) = (&self.line.noisy, &mut totals.tally);
+        let played = playing::play(line, &self.reading, program, random, tally)?;
         if played.lost > 0 {
             return Err("one waited when a start was accepted".to_string());
         }
-        tally
-            .allowed
-            .count(&self.line, &self.setting.format, &played);
+        totals.allowed.count(&self.line, &played);
         Ok(())
     }
 
     /// 'at most one of the three in each bit, and never the last vote of a stop bit'; and the count that the frame has
     /// to come out with is 'the number of bits so hit'.
-    fn expect_allowed(&self, sent: &Sent) -> Result<(), String> {
-        let bits = self.line.voted_bits();
-        let hits_of = |bit| sent.hits.iter().filter(|hit| hit.bit == bit).count();
+    fn expect_allowed(&self, sent: &Sent, chosen: &Chosen) -> Result<(), String> {
+        let hits = &chosen.hits;
+        let bits = self.line.noisy.voted_bits();
+        let hits_of = |bit| hits.iter().filter(|hit| hit.bit == bit).count();
         let hit = (0..bits).filter(|&bit| hits_of(bit) == 1).count();
         let is_last = |bit, vote| bit == bits - 1 && vote == 2;
-        let is_allowed = hit == sent.hits.len()
+        let is_allowed = hit == hits.len()
             && hit == sent.frame.split_votes as usize
-            && !sent.hits.iter().any(|hit| is_last(hit.bit, hit.vote));
+            && !hits.iter().any(|hit| is_last(hit.bit, hit.vote));
         match is_allowed {
             true => Ok(()),
-            false => Err(format!("noise that is not allowed: {:?}", sent.hits)),
+            false => Err(format!("noise that is not allowed: {hits:?}")),
         }
     }
 
     /// 'it is in time if it enters at a clock n+t with t·Q < (D+2)·P'. Where it has to wait it waits by then.
-    fn expect_in_time(&self, sent: &Sent) -> Result<(), String> {
-        let t = sent.completes as u64 - sent.start;
-        let Bit { p, q } = self.setting.bit;
-        if t * q >= self.line.voted_bits() * p {
+    fn expect_in_time(&self, sent: &Sent, chosen: &Chosen) -> Result<(), String> {
+        let t = sent.completes as u64 - chosen.start;
+        let Bit { p, q } = self.line.noisy.bit;
+        if t * q >= self.line.noisy.voted_bits() * p {
             return Err(format!("reckoned to complete {t} clocks after its start"));
         }
         Ok(())
@@ -176,11 +180,15 @@ impl Case {
 
 /// A frame as close to the one before it as the rule allows, or with a pause between, and with allowed noise in none,
 /// all or any number of its bits.
-pub fn add_frame(line: &mut NoisyLine, random: &mut Random) {
+pub fn add_frame(line: &mut NoisyLine, random: &mut Random) -> Chosen {
     if random.percent(30) {
         line.add_pause(random);
     }
+    let start = line.levels.len() as u64;
     line.add_frame(random);
     let bits = line.any_bits(random);
-    line.hit(&bits, STOP_VOTES, random);
+    Chosen {
+        start,
+        hits: line.hit_bits(&bits, STOP_VOTES, random),
+    }
 }

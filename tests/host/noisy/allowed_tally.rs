@@ -1,8 +1,7 @@
 //! What was done on lines with allowed noise (allowed_noise.rs), and with more than that, and the rows of the table
 //! that tell it.
 
-use crate::model::frame::Format;
-use crate::noisy_lines::NoisyLine;
+use crate::allowed_lines::AllowedLine;
 use crate::playing::Played;
 use crate::tally::print_row;
 use crate::votes::{kind_of, BITS, COUNTS, STOP};
@@ -64,13 +63,14 @@ pub struct AllowedTally {
 
 impl AllowedTally {
     /// Counts a line and what came out of it.
-    pub fn count(&mut self, line: &NoisyLine, format: &Format, played: &Played) {
+    pub fn count(&mut self, line: &AllowedLine, played: &Played) {
+        let format = &line.noisy.format;
         let speed = format.double_speed as usize;
-        for sent in &line.frames {
-            self.frames[sent.hits.len()] += 1;
-            let is_all = sent.hits.len() as u64 == line.voted_bits();
+        for chosen in &line.chosen {
+            self.frames[chosen.hits.len()] += 1;
+            let is_all = chosen.hits.len() as u64 == line.noisy.voted_bits();
             self.with_all[speed][format.word_bits() as usize - LEAST_D] += is_all as u64;
-            for hit in &sent.hits {
+            for hit in &chosen.hits {
                 self.hits[speed][kind_of(hit.bit as u8, format)][hit.vote] += 1;
             }
         }

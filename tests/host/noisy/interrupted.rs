@@ -4,6 +4,7 @@
 
 use crate::call::Call;
 use crate::frames::Program;
+use crate::held::Holder;
 use crate::model::layout::RECEIVING;
 use crate::model::usart::MPCM;
 use crate::model::{address, level, number};
@@ -39,6 +40,8 @@ const UPM: u8 = 0x30;
 pub struct Interrupted {
     pair: Pair,
     random: Random,
+    /// Calls that stood between clocks, beside reads and looks.
+    pub calls: u64,
 }
 
 impl Interrupted {
@@ -46,6 +49,7 @@ impl Interrupted {
         Interrupted {
             pair,
             random: Random::new(seed),
+            calls: 0,
         }
     }
 
@@ -108,7 +112,7 @@ impl Program for Interrupted {
         let mut rest = levels;
         while !rest.is_empty() {
             self.call(tally)?;
-            tally.allowed.other_calls += 1;
+            self.calls += 1;
             let clocks = self.random.between(1, MOST_CLOCKS) as usize;
             let (piece, left) = rest.split_at(clocks.min(rest.len()));
             match self.random.flip() {
@@ -127,8 +131,10 @@ impl Program for Interrupted {
     fn ask_split_votes(&mut self, tally: &mut Tally) -> Result<u8, String> {
         self.pair.ask_split_votes(tally)
     }
+}
 
-    fn places(&self) -> Option<[u8; 2]> {
-        self.pair.places()
+impl Holder for Interrupted {
+    fn expect_held(&self, unread: usize) -> Result<(), String> {
+        self.pair.expect_held(unread)
     }
 }

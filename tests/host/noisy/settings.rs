@@ -1,9 +1,8 @@
-//! Settings of lines with noise (noise.rs, allowed_noise.rs): format and speed, UBRR, and the sender's bit.
+//! Settings of lines with noise (counts_seen.rs, allowed_noise.rs): format and speed, UBRR, and the sender's bit.
 
-use crate::devices::random_device;
+use crate::lines::receiving_device;
 use crate::model::frame::Format;
-use crate::model::receiver::{Line, Received, Receiver};
-use crate::model::sender::Sender;
+use crate::model::receiver::{Received, Receiver};
 use crate::model::Device;
 use crate::noisy_lines::NoisyLine;
 use crate::random::Random;
@@ -41,17 +40,7 @@ impl Setting {
     /// An idle receiver that remembers high and holds no frame, its baud counter not above UBRR, and anything in the
     /// SPI.
     pub fn device(&self, random: &mut Random) -> Device {
-        let mut device = random_device(random);
-        device.usart.format = self.format;
-        device.usart.ubrr = self.ubrr;
-        device.usart.counter = random.between(0, self.ubrr as u64) as u16;
-        device.usart.sender = Sender::reset();
-        device.usart.receiver = Receiver {
-            rxen: true,
-            line: Line::Idle { last: true },
-            ..Receiver::reset()
-        };
-        device
+        receiving_device(&self.format, self.ubrr, random)
     }
 
     /// The same with frames, oldest first, the third of which waits, and a loss that is pending or not.

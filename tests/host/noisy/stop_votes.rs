@@ -9,13 +9,13 @@
 //! speed. At normal speed x is 3.3 at most: never. At double speed it is 1.37, 1.25, 1.06, 1.18, 1.30 and 0.95 for D
 //! from 5 to 10: with every format but those of D 10, from some UBRR on.
 
+use crate::allowed_tally::AllowedTally;
 use crate::model::frame::Format;
 use crate::model::Device;
 use crate::noisy_lines::NoisyLine;
 use crate::random::Random;
 use crate::rates::{all_formats, bits_at_limit, rate_limit};
 use crate::settings::Setting;
-use crate::tally::Tally;
 use crate::too_much_noise::{data_without_falling_edge, is_receiving_after, play};
 
 /// UBRR that are tried.
@@ -27,7 +27,7 @@ const LEAST_UBRR: [[Option<u16>; 6]; 2] = [
 ];
 
 /// Tries all formats, these UBRR with every start of the baud counter, and the shortest and the longest bit.
-pub fn can_lose_frames(seed: u64, tally: &mut Tally) -> Result<(), String> {
+pub fn can_lose_frames(seed: u64, tally: &mut AllowedTally) -> Result<(), String> {
     let mut random = Random::new(seed);
     let mut least = [[None; 6]; 2];
     for format in all_formats() {
@@ -50,7 +50,7 @@ fn frames_missed(
     format: &Format,
     ubrr: u16,
     random: &mut Random,
-    tally: &mut Tally,
+    tally: &mut AllowedTally,
 ) -> Result<u64, String> {
     let r = rate_limit(format);
     let mut missed = 0;
@@ -80,7 +80,7 @@ fn is_missed(
     setting: &Setting,
     device: Device,
     random: &mut Random,
-    tally: &mut Tally,
+    tally: &mut AllowedTally,
 ) -> Result<bool, String> {
     let mut line = setting.line_to(&device);
     line.add_frame(random);
@@ -100,7 +100,7 @@ fn is_missed(
     play(&line, device, seed).map_err(|text| format!("without noise: {text}"))?;
     if is_harmless {
         play(&noisy, device, seed).map_err(|text| format!("with a tick between: {text}"))?;
-        tally.allowed.stop_votes_harmless += 1;
+        tally.stop_votes_harmless += 1;
         return Ok(false);
     }
     check_missed(noisy, device, seed, tally)?;
@@ -113,7 +113,7 @@ fn check_missed(
     mut line: NoisyLine,
     device: Device,
     seed: u64,
-    tally: &mut Tally,
+    tally: &mut AllowedTally,
 ) -> Result<(), String> {
     let seen = play(&line, device, seed).err();
     let second = line.frames.remove(1);
@@ -128,8 +128,8 @@ fn check_missed(
         return Err(format!("seen: {seen:?}"));
     }
     match play(&line, device, seed) {
-        Ok(()) => tally.allowed.stop_votes_lost += 1,
-        Err(_) => tally.allowed.stop_votes_garbled += 1,
+        Ok(()) => tally.stop_votes_lost += 1,
+        Err(_) => tally.stop_votes_garbled += 1,
     }
     Ok(())
 }

@@ -4,6 +4,8 @@
 //! parity bit makes UPE alone, and a stop bit FE alone.
 
 use crate::allowed_noise::{add_frame, STOP_VOTES};
+use crate::allowed_tally::AllowedTally;
+use crate::frames::Frame;
 use crate::model::frame::Format;
 use crate::model::layout::RECEIVING;
 use crate::model::Device;
@@ -28,27 +30,36 @@ struct Case {
     votes: [usize; 2],
 }
 
-pub fn breaks_frames(seed: u64, tally: &mut Tally) -> Result<(), String> {
+pub fn breaks_frames(seed: u64, tally: &mut AllowedTally) -> Result<(), String> {
     let mut random = Random::new(seed);
+    each_two_votes(|&format, bit, votes| {
+        let ubrr = random.pick(&[0, 1, 2, 7]);
+        let limits = bits_at_limit(&format, ubrr, 1000);
+        let case = Case {
+            setting: Setting {
+                format,
+                ubrr,
+                bit: random.pick(&limits),
+            },
+            bit,
+            kind: kind_of(bit as u8, &format),
+            votes,
+        };
+        let checked = case.check(&mut random);
+        tally.broken[format.double_speed as usize][case.kind] += checked.is_ok() as u64;
+        checked.map_err(|text| format!("{:?}: {text}", case.setting))
+    })
+}
+
+/// Goes through two votes of a bit, all of them of each bit of every format.
+pub fn each_two_votes(
+    mut go: impl FnMut(&Format, u64, [usize; 2]) -> Result<(), String>,
+) -> Result<(), String> {
     for format in all_formats() {
-        for bit in 0..=format.word_bits() + 1 {
+        for bit in 0..u64::from(format.word_bits()) + 2 {
             for votes in PAIRS {
-                let ubrr = random.pick(&[0, 1, 2, 7]);
-                let limits = bits_at_limit(&format, ubrr, 1000);
-                let case = Case {
-                    setting: Setting {
-                        format,
-                        ubrr,
-                        bit: random.pick(&limits),
-                    },
-                    bit: bit.into(),
-                    kind: kind_of(bit, &format),
-                    votes,
-                };
-                case.check(&mut random).map_err(|text| {
-                    format!("{:?}, votes {votes:?} of bit {bit}: {text}", case.setting)
-                })?;
-                tally.allowed.broken[format.double_speed as usize][case.kind] += 1;
+                go(&format, bit, votes)
+                    .map_err(|text| format!("{format:?}, votes {votes:?} of bit {bit}: {text}"))?;
             }
         }
     }
@@ -58,7 +69,7 @@ pub fn breaks_frames(seed: u64, tally: &mut Tally) -> Result<(), String> {
 impl Case {
     fn check(&self, random: &mut Random) -> Result<(), String> {
         let device = self.setting.device(random);
-        let mut line = self.line(&device, random);
+        let (mut line, broken) = self.line(&device, random);
         let seed = random.next();
         let Err(seen) = play(&line, device, seed) else {
             return Err("not seen".to_string());
@@ -67,11 +78,12 @@ impl Case {
             return self.check_dropped(line, device, &seen, seed);
         }
         // All the rest, the count of split votes too, is as with allowed noise.
-        line.frames[BROKEN].turn_bit_over(self.bit, &self.setting.format);
+        line.frames[BROKEN].frame = broken;
         play(&line, device, seed).map_err(|text| format!("broken in another way: {text}"))
     }
 
-    fn line(&self, device: &Device, random: &mut Random) -> NoisyLine {
+    /// The line, where the frame has the bit as it was sent, and the frame as it has to come out.
+    fn line(&self, device: &Device, random: &mut Random) -> (NoisyLine, Frame) {
         let Setting { format, ubrr, .. } = self.setting;
         let mut line = self.setting.line_to(device);
         add_frame(&mut line, random);
@@ -81,17 +93,26 @@ impl Case {
             line.add_frame(random);
             let mut others = line.any_bits(random);
             others.retain(|&bit| bit != self.bit);
-            line.hit(&others, STOP_VOTES, random);
+            line.hit_bits(&others, STOP_VOTES, random);
         }
         self.votes.iter().for_each(|&v| line.turn_over(self.bit, v));
+        let sent = line.frames[BROKEN].frame;
+        if self.kind != START {
+            line.note_votes(self.bit, 2);
+        }
+        let broken = line.frames[BROKEN].frame;
         // A vote of two against one is split, whichever way it goes.
-        line.frames[BROKEN].frame.split_votes += 1;
+        let split_votes = sent.split_votes + 1;
+        line.frames[BROKEN].frame = Frame {
+            split_votes,
+            ..sent
+        };
         if self.kind == STOP {
             // A tick comes before the next start, so that a last vote turned over does not matter to it.
             line.add_high(u64::from(ubrr) + 1);
         }
         add_frame(&mut line, random);
-        line
+        (line, broken)
     }
 
     /// No frame is there after the clock with which it would have completed, since none was being received after its

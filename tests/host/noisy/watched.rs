@@ -1,14 +1,16 @@
 //! A pair that is watched clock by clock (allowed_noise.rs). Which samples vote is seen in the archive's own record
 //! before each clock, by the bytes that docs/RECORD.md names, and held against what sampling.rs reckons.
 
+use crate::allowed_lines::AllowedLine;
+use crate::allowed_tally::AllowedTally;
 use crate::frames::Program;
+use crate::held::Holder;
 use crate::model::layout::{COUNTER, RECEIVING, SAMPLED_BIT, SAMPLES};
 use crate::model::level;
-use crate::noisy_lines::NoisyLine;
 use crate::pair::Pair;
 use crate::random::Random;
-use crate::sampling::VotingSample;
 use crate::tally::Tally;
+use crate::voting::VotingSample;
 
 pub struct Watched {
     pair: Pair,
@@ -20,10 +22,10 @@ pub struct Watched {
 }
 
 impl Watched {
-    pub fn new(pair: Pair, line: &NoisyLine) -> Watched {
+    pub fn new(pair: Pair, line: &AllowedLine) -> Watched {
         Watched {
             pair,
-            votes: line.sampling.votes,
+            votes: line.noisy.sampling.votes,
             clock: 0,
             taken: Vec::new(),
         }
@@ -45,15 +47,15 @@ impl Watched {
 
     /// The voting samples taken are those reckoned, all of them and no other, in order. Noise is at these clocks alone,
     /// in the very bits and votes that were chosen.
-    pub fn check(&self, line: &NoisyLine, tally: &mut Tally) -> Result<(), String> {
+    pub fn check(&self, line: &AllowedLine, tally: &mut AllowedTally) -> Result<(), String> {
         let hits = self.hits_of(line)?;
-        tally.allowed.votes_watched += self.taken.len() as u64;
-        tally.allowed.hits_watched += hits;
+        tally.votes_watched += self.taken.len() as u64;
+        tally.hits_watched += hits;
         Ok(())
     }
 
     /// How many votes are hit, where all is as reckoned.
-    fn hits_of(&self, line: &NoisyLine) -> Result<u64, String> {
+    fn hits_of(&self, line: &AllowedLine) -> Result<u64, String> {
         let reckoned = line.voting_samples();
         if self.taken != reckoned {
             let pairs = self.taken.iter().zip(&reckoned);
@@ -65,8 +67,8 @@ impl Watched {
         let hit: Vec<VotingSample> = (self.taken.iter().copied())
             .filter(|vote| noise.binary_search(&vote.clock).is_ok())
             .collect();
-        let mut chosen: Vec<VotingSample> = (line.frames.iter())
-            .flat_map(|sent| sent.hits.iter().copied())
+        let mut chosen: Vec<VotingSample> = (line.chosen.iter())
+            .flat_map(|chosen| chosen.hits.iter().copied())
             .collect();
         chosen.sort_unstable_by_key(|vote| vote.clock);
         if hit.len() != noise.len() || hit != chosen {
@@ -77,15 +79,15 @@ impl Watched {
 
     /// The check could fail: with a frame's start reckoned a tick late, or noise at a sample that does not vote, or at
     /// a vote that was not chosen, it does.
-    pub fn sees_other_lines(&self, line: &NoisyLine, random: &mut Random) -> Result<(), String> {
-        let number = random.below(line.frames.len() as u64) as usize;
-        let sent = &line.frames[number];
-        let turn = line.sampling.turn as usize;
+    pub fn sees_other_lines(&self, line: &AllowedLine, random: &mut Random) -> Result<(), String> {
+        let number = random.below(line.chosen.len() as u64) as usize;
+        let sent = &line.noisy.frames[number];
+        let turn = line.noisy.sampling.turn as usize;
         let mut later = line.clone();
-        later.frames[number].start += turn as u64;
+        later.chosen[number].start += turn as u64;
         let turned_over = |clock: usize| {
             let mut other = line.clone();
-            other.levels[clock] ^= level::RXD;
+            other.noisy.levels[clock] ^= level::RXD;
             other
         };
         let others = [
@@ -117,8 +119,10 @@ impl Program for Watched {
     fn ask_split_votes(&mut self, tally: &mut Tally) -> Result<u8, String> {
         self.pair.ask_split_votes(tally)
     }
+}
 
-    fn places(&self) -> Option<[u8; 2]> {
-        self.pair.places()
+impl Holder for Watched {
+    fn expect_held(&self, unread: usize) -> Result<(), String> {
+        self.pair.expect_held(unread)
     }
 }

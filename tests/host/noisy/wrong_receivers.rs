@@ -6,7 +6,7 @@ use crate::model::Device;
 use crate::noisy_clocks::*;
 use crate::random::Random;
 use crate::stand_in::{Alone, StandIn};
-use crate::tally::Tally;
+use crate::totals::Totals;
 
 const fn clock(clock: fn(&mut Device, u8) -> u8) -> StandIn {
     StandIn { clock, ..RIGHT }
@@ -60,7 +60,7 @@ pub fn all_are_seen(seed: u64) -> Result<u64, String> {
 
 fn play(stand_in: &'static StandIn, seed: u64) -> Result<(), String> {
     let mut random = Random::new(seed);
-    let mut tally = Tally::default();
+    let mut totals = Totals::default();
     let make = |device| Ok(Alone { device, stand_in });
-    (0..ROUNDS).try_for_each(|_| allowed_noise::round(make, &mut random, &mut tally))
+    (0..ROUNDS).try_for_each(|_| allowed_noise::round(make, &mut random, &mut totals))
 }
