@@ -2,7 +2,7 @@
 #![tactic(auto)]
 
 ghost use Rattle.std.specs.Prelude.{◌≡◌};
-ghost use Rattle.answer.specs.Number.{number_of};
+ghost use Rattle.answer.specs.Number.{number_of, number_in, value_or};
 
 // Document 01's refusals, and document 02's from 9 on.
 #[derive(Clone, Copy)]
@@ -34,7 +34,8 @@ pub enum Refusal {
 }
 
 impl Refusal {
-    // The number that the rig sees.
+    // The number that the rig sees. A rig has these numbers by the header, so each stands here by its name, as in
+    // `number_of`: by their order, a refusal that is put in between would change those after it.
     pub fn number(self) -> u8
         ensures { result ≡ number_of self }
     {
@@ -51,6 +52,30 @@ impl Refusal {
             Refusal::Different => 10,
             Refusal::Range => 11,
             Refusal::Room => 12,
+        }
+    }
+}
+
+// A byte that is read of a unit, and the unit after it.
+#[derive(Clone, Copy)]
+pub struct Reading<U> {
+    pub value: u8,
+    pub after: U,
+}
+
+// Puts what a call came to in its place, `none` where it is refused, and answers the number.
+pub fn told<T: Copy>(got: Result<T, Refusal>, none: T, place: &mut T) -> u8
+    ensures value { result ≡ number_in got }
+    ensures place_after { place.new ≡ value_or none got }
+{
+    match got {
+        Ok(value) => {
+            *place = value;
+            0
+        }
+        Err(r) => {
+            *place = none;
+            r.number()
         }
     }
 }
