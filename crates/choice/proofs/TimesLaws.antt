@@ -39,3 +39,10 @@ module _ {A : Type 0} (step : A → A) where
   -- none are left
   pub times-over : (n : ℕ) (x : A) → n ≡ 0 → x ≡ times step n x
   times-over n x e = sym (times_none x) ∙ ap (λ (m : ℕ). times step m x) (sym e)
+
+-- the steps of a whole whose one part is stepped, and the others stay, are those of the part
+module _ {A B : Type 0} (step : A → A) (all : B → B) (of : A → B) (same : (x : A) → all (of x) ≡ of (step x)) where
+  pub times-part : (n : ℕ) (x : A) → times all n (of x) ≡ of (times step n x)
+  unfolding times
+  times-part zero x = refl
+  times-part (suc n) x = ap (times all n) (same x) ∙ times-part n (step x)
