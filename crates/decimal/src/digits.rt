@@ -16,25 +16,23 @@ fn put_digits(buffer: &mut [u8], at: usize, n: u32) -> usize
     ensures buffer_after { buffer.new ≡ sets buffer.old at (digits_of n) }
 {
     if n < 10 {
-        buffer[at] = 48 + (n % 10) as u8;
+        buffer[at] = b'0' + (n % 10) as u8;
         at + 1
     } else {
         let last = put_digits(buffer, at, n / 10);
-        buffer[last] = 48 + (n % 10) as u8;
+        buffer[last] = b'0' + (n % 10) as u8;
         last + 1
     }
 }
 
 // Puts the digits of `n` at `at` and answers the place past them; where they have no room, it answers `at`.
+// It answers no Option, as its contract promises `place_past` for every buffer; and std's `write!` says nothing of the
+// bytes that it puts in a slice, so the digits are made by hand.
 pub fn put_number(buffer: &mut [u8], at: usize, n: u32) -> usize
     ensures value { result ≡ place_past buffer.old at n }
     ensures buffer_after { buffer.new ≡ with_number buffer.old at n }
 {
-    let room = buffer.len();
-    if room < at {
-        return at;
-    }
-    if room - at < digit_count(n) {
+    if buffer.len().saturating_sub(at) < digit_count(n) {
         return at;
     }
     put_digits(buffer, at, n)

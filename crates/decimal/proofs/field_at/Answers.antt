@@ -1,15 +1,18 @@
-use Rattle.std.proofs.Common.{refl, sym, ◌∙◌}
+use Rattle.std.proofs.Common.{refl, sym, ltb-false}
 use Rattle.decimal.proofs.FieldLaws.{start-digit, start-other, start-past}
 use Rattle.decimal.proofs.field_at.Goals as goal
 
-pub returns-then-is_digit : goal.returns-then-is_digit
-returns-then-is_digit c =
-    start-digit _ _ _ _ _ c.if-at-text.true (sym c.is_digit.ensures ∙ c.if-is_digit.true) _
-    c.with_digit-first.ensures c.rest_of.ensures
+pub returns-in_err-byte : goal.returns-in_err-byte
+returns-in_err-byte c =
+    start-past _ _ _ _ _ (ltb-false _ _ (sym c.in_err-byte.ensures.lookup.0)) c.from_residual.ensures
 
-pub returns-else-is_digit : goal.returns-else-is_digit
-returns-else-is_digit c =
-    start-other _ _ _ _ _ c.if-at-text.true (sym c.is_digit.ensures ∙ c.if-is_digit.false) refl
+pub returns-then-not-is_digit : goal.returns-then-not-is_digit
+returns-then-not-is_digit c =
+    let byte = c.in_ok-byte.ensures.lookup.3 in
+    start-other _ _ _ _ _ byte.0 (rw (byte.1 0) at (sym c.if-not-is_digit.ensures)) refl
 
-pub returns-else-at-text : goal.returns-else-at-text
-returns-else-at-text c = start-past _ _ _ _ _ c.if-at-text.false refl
+pub returns : goal.returns
+returns c =
+    let byte = c.in_ok-byte.ensures.lookup.3 in
+    start-digit _ _ _ _ _ byte.0 (rw (byte.1 0) at (sym c.if-not-is_digit.ensures)) _
+    (rw (byte.1 0) at c.with_digit.ensures) c.rest_of.ensures

@@ -1,5 +1,6 @@
 use Rattle.std.proofs.Common.{arith, sym, ◌∙◌}
 use Rattle.decimal.proofs.FieldLaws.{turn-large, turn_end, turn-zero, turn-other, turn-digit, turn-past}
+use Rattle.decimal.proofs.rest_of.Goals.{then-value-eq0-via-then-value-eq0, then-value-eq0-via-else-value-eq0+then-not-is_digit}
 use Rattle.decimal.proofs.rest_of.Goals as goal
 
 pub returns-then-limit-value : goal.returns-then-limit-value
@@ -13,13 +14,14 @@ returns-then-byte-end c =
 
 pub returns-then-value-eq0 : goal.returns-then-value-eq0
 returns-then-value-eq0 c =
-    turn-zero _ _ _ c.loop-at.value c.loop-at.at _ c.loop-at-test.true c.loop-at.invariant (omega arith)
-    c.if-byte-end.false c.if-value-eq0.true
-
-pub returns-then-not-is_digit : goal.returns-then-not-is_digit
-returns-then-not-is_digit c =
-    turn-other _ _ _ c.loop-at.value c.loop-at.at _ c.loop-at-test.true c.loop-at.invariant (omega arith)
-    c.if-byte-end.false c.if-value-eq0.false (sym c.is_digit.ensures ∙ c.if-not-is_digit.true)
+    elim c.then-value-eq0.branch [
+      | then-value-eq0-via-then-value-eq0 w ↦
+          turn-zero _ _ _ c.loop-at.value c.loop-at.at _ c.loop-at-test.true c.loop-at.invariant (omega arith)
+          c.if-byte-end.false w.if-value-eq0.true
+      | then-value-eq0-via-else-value-eq0+then-not-is_digit w ↦
+          turn-other _ _ _ c.loop-at.value c.loop-at.at _ c.loop-at-test.true c.loop-at.invariant (omega arith)
+          c.if-byte-end.false w.if-value-eq0.false (sym w.is_digit.ensures ∙ w.if-not-is_digit.true)
+    ]
 
 pub loop-at-preserved : goal.loop-at-preserved
 loop-at-preserved c =
