@@ -2,7 +2,7 @@ ghost use Rattle.std.specs.Prelude.{◌≡◌, ◌≤◌, ◌^◌};
 ghost use Rattle.frame.specs.Format.{data_bits, parity_bits, stop_bits, samples, first_vote, word_bits, last_bit};
 
 // Data bits of a frame.
-#[derive(Clone, Copy)]
+#[derive(Clone, Copy, PartialEq, Eq)]
 pub enum Size {
     Five,
     Six,
@@ -11,7 +11,7 @@ pub enum Size {
     Nine,
 }
 
-#[derive(Clone, Copy)]
+#[derive(Clone, Copy, PartialEq, Eq)]
 pub enum Parity {
     Off,
     Even,
@@ -19,7 +19,7 @@ pub enum Parity {
 }
 
 // How a frame looks on the line: size, parity, USBS (two stop bits) and U2X (double speed).
-#[derive(Clone, Copy)]
+#[derive(Clone, Copy, PartialEq, Eq)]
 pub struct Format {
     pub size: Size,
     pub parity: Parity,
@@ -46,13 +46,7 @@ impl Size {
         ensures value { result ≡ 2 ^ data_bits self }
         ensures lower_bound { (32 ≤ result) × (result ≤ 512) }
     {
-        match self {
-            Size::Five => 32,
-            Size::Six => 64,
-            Size::Seven => 128,
-            Size::Eight => 256,
-            Size::Nine => 512,
-        }
+        1 << self.bits()
     }
 }
 
@@ -63,8 +57,7 @@ impl Parity {
     {
         match self {
             Parity::Off => 0,
-            Parity::Even => 1,
-            Parity::Odd => 1,
+            Parity::Even | Parity::Odd => 1,
         }
     }
 }
@@ -91,9 +84,7 @@ impl Format {
         ensures value { result ≡ word_bits self }
         ensures lower_bound { (5 ≤ result) × (result ≤ 10) }
     {
-        let z = self.size;
-        let p = self.parity;
-        z.bits() + p.bits()
+        self.size.bits() + self.parity.bits()
     }
 
     pub fn stop_bits(self) -> u8

@@ -10,9 +10,7 @@ impl Format {
         ensures value { result ≡ x % 2 ^ data_bits self.size }
         ensures upper_bound { result ≤ 511 }
     {
-        let z = self.size;
-        let w = z.weight();
-        x % w
+        x % self.size.weight()
     }
 
     // The exclusive or of the data bits of x: the lowest bit of the count of ones among them.
@@ -20,9 +18,8 @@ impl Format {
         ensures value { result ≡ sum_of_bits (data_bits self.size) x % 2 }
         ensures upper_bound { result ≤ 1 }
     {
-        let d = self.masked(x);
-        let n = u16::count_ones(d);
-        (n % 2) as u16
+        let bits = self.masked(x);
+        (bits.count_ones() % 2) as u16
     }
 
     // The parity bit of the data bits of x; 0 with parity off.
@@ -30,12 +27,10 @@ impl Format {
         ensures value { result ≡ parity_bit self x }
         ensures upper_bound { result ≤ 1 }
     {
-        let p = self.parity;
-        let e = self.even(x);
-        match p {
+        match self.parity {
             Parity::Off => 0,
-            Parity::Even => e,
-            Parity::Odd => 1 - e,
+            Parity::Even => self.even(x),
+            Parity::Odd => 1 - self.even(x),
         }
     }
 }

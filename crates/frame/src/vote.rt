@@ -13,13 +13,14 @@ pub fn majority(a: bool, b: bool, c: bool) -> Vote
     ensures { result ≡ vote_of a b c }
 {
     if a == b {
-        return Vote {
+        Vote {
             level: a,
             unanimous: a == c,
-        };
-    }
-    Vote {
-        level: c,
-        unanimous: false,
+        }
+    } else {
+        Vote {
+            level: c,
+            unanimous: false,
+        }
     }
 }

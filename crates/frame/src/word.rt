@@ -9,20 +9,15 @@ impl Format {
     pub fn word(self, x: u16) -> u16
         ensures { result ≡ word_of self x }
     {
-        let z = self.size;
-        self.masked(x) + self.parity_bit(x) * z.weight()
+        self.masked(x) + self.parity_bit(x) * self.size.weight()
     }
 
     // Whether parity is on and the word's parity bit is wrong.
+    #[tactic(auto, unfolding(crate::specs::Word::parity_error))]
     pub fn parity_error(self, word: u16) -> bool
         ensures { result ≡ parity_error self word }
     {
-        let p = self.parity;
-        let z = self.size;
-        if p.bits() == 0 {
-            return false;
-        }
-        word / z.weight() != self.parity_bit(word)
+        self.parity != Parity::Off && word / self.size.weight() != self.parity_bit(word)
     }
 
     // The weight of the word's highest bit, where the receiver's bits come in.
@@ -30,26 +25,24 @@ impl Format {
         ensures value { result ≡ 2 ^ (word_bits self - 1) }
         ensures upper_bound { result ≤ 512 }
     {
-        let p = self.parity;
-        let z = self.size;
-        let w = z.weight();
-        match p {
-            Parity::Off => w / 2,
-            Parity::Even => w,
-            Parity::Odd => w,
+        let above = self.size.weight();
+        match self.parity {
+            Parity::Off => above / 2,
+            Parity::Even | Parity::Odd => above,
         }
     }
 
     // The level of bit number `bit` of the word's frame: 0 is the start bit.
+    #[tactic(auto, unfolding(crate::specs::Word::frame_bit))]
     pub fn bit_level(self, word: u16, bit: u8) -> bool
         ensures { result ≡ frame_bit (word_bits self) word bit }
     {
         if bit == 0 {
-            return false;
+            false
+        } else if bit <= self.word_bits() {
+            (word >> (bit - 1)) % 2 == 1
+        } else {
+            true
         }
-        if self.word_bits() < bit {
-            return true;
-        }
-        (word >> (bit - 1)) % 2 == 1
     }
 }

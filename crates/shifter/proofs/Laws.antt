@@ -12,10 +12,6 @@ use Rattle.choice.specs.Bit.{is_set}
 use Rattle.choice.proofs.Digits.{digit-le, digit-is, digit-odd}
 use Rattle.shifter.specs.Order.{out_bit, shifted_in, bits_of}
 
--- the low bit is set in odd numbers
-pub odd_set : (x : ℕ) → eqb (x % 2) 1 ≡ is_set x 1
-odd_set x = rw (div-one x)
-
 -- the bits of a list but the first
 abbrev pub rest : List Bool → List Bool
 rest [] = []

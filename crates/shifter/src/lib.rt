@@ -7,8 +7,6 @@ ghost use Rattle.shifter.specs.Order.{out_bit, shifted_in};
 ghost use Rattle.shifter.specs.Edge.{is_sampling, is_putting, edge_of};
 ghost use Rattle.shifter.specs.Exchange.{first_out, next_edge, edged_of};
 
-use choice::digit;
-
 // How a byte goes over the wire: CPHA, and DORD (low bit first).
 #[derive(Clone, Copy)]
 pub struct Mode {
@@ -30,7 +28,7 @@ pub struct Exchange {
     pub edges: u8,
 }
 
-// What an edge leads to.
+// What an edge leads to. Both cases hold a value and neither is a failure, so it is no Result.
 #[derive(Clone, Copy)]
 pub enum Edged {
     // Edges 1 to 15.
@@ -44,7 +42,7 @@ pub enum Edged {
 pub fn next_edge(edges: u8) -> u8
     ensures { result ≡ next_edge edges }
 {
-    if edges < 15 { edges + 1 } else { 16 }
+    edges.min(15) + 1
 }
 
 impl Mode {
@@ -54,9 +52,10 @@ impl Mode {
         ensures { result ≡ out_bit self.dord shift }
     {
         if self.dord {
-            return shift % 2 == 1;
+            shift % 2 == 1
+        } else {
+            shift / 128 % 2 == 1
         }
-        shift / 128 % 2 == 1
     }
 
     // The sent bit leaves and `bit` enters.
@@ -64,11 +63,11 @@ impl Mode {
     pub fn shifted_in(self, shift: u8, bit: bool) -> u8
         ensures { result ≡ shifted_in self.dord shift bit }
     {
-        let b = digit(bit);
         if self.dord {
-            return shift / 2 + b * 128;
+            shift / 2 + u8::from(bit) * 128
+        } else {
+            shift % 128 * 2 + u8::from(bit)
         }
-        shift % 128 * 2 + b
     }
 
     // With CPHA 0 odd edges sample, with CPHA 1 even ones.
@@ -77,9 +76,10 @@ impl Mode {
         ensures { result ≡ is_sampling self.cpha edge }
     {
         if self.cpha {
-            return edge % 2 == 0;
+            edge % 2 == 0
+        } else {
+            edge % 2 == 1
         }
-        edge % 2 == 1
     }
 
     // With CPHA 0 edges 2 to 14 put out the next bit, with CPHA 1 odd ones.
@@ -88,12 +88,10 @@ impl Mode {
         ensures { result ≡ is_putting self.cpha edge }
     {
         if self.cpha {
-            return edge % 2 == 1;
+            edge % 2 == 1
+        } else {
+            edge < 16 && edge % 2 == 0
         }
-        if edge < 16 {
-            return edge % 2 == 0;
-        }
-        false
     }
 
     // Edge number `edge` of a byte, with the level of the input.
@@ -102,18 +100,18 @@ impl Mode {
         ensures { result ≡ edge_of self r edge input }
     {
         if self.sampling(edge) {
-            return Shifter {
+            Shifter {
                 shift: self.shifted_in(r.shift, input),
-                out: r.out,
-            };
-        }
-        if self.putting(edge) {
-            return Shifter {
-                shift: r.shift,
+                ..r
+            }
+        } else if self.putting(edge) {
+            Shifter {
                 out: self.out_bit(r.shift),
-            };
+                ..r
+            }
+        } else {
+            r
         }
-        r
     }
 
     // The bit that is out before edge 1, when it was `out` and a byte is filled in.
@@ -121,10 +119,7 @@ impl Mode {
     pub fn first_out(self, shift: u8, out: bool) -> bool
         ensures { result ≡ first_out self shift out }
     {
-        if self.cpha {
-            return out;
-        }
-        self.out_bit(shift)
+        if self.cpha { out } else { self.out_bit(shift) }
     }
 }
 
@@ -134,15 +129,12 @@ impl Exchange {
     pub fn edged(self, mode: Mode, input: bool) -> Edged
         ensures { result ≡ edged_of mode self input }
     {
-        let n = next_edge(self.edges);
-        let s = self.register;
-        let r = mode.edge(s, n, input);
-        if n < 16 {
-            return Edged::Onward(Exchange {
-                register: r,
-                edges: n,
-            });
+        let edges = next_edge(self.edges);
+        let register = mode.edge(self.register, edges, input);
+        if edges < 16 {
+            Edged::Onward(Exchange { register, edges })
+        } else {
+            Edged::Complete(register)
         }
-        Edged::Complete(r)
     }
 }
