@@ -1,16 +1,13 @@
 -- The figure that is shown is the nearest, halves away from zero, and no other figure is.
 use mathlib.Core.Path.{◌≡◌, ap, ◌∙◌}
 use lib.Signed.{mag}
-use Prim.Native.Nat.{ℕ, zero, suc, ◌+◌, ◌-◌, ◌*◌, ◌/◌, ◌^◌, ◌≤◌, ◌<◌}
-use mir.Syntax.{w32}
-use mir.Val.{to_z, of_z, SFits}
-use mir.ValLaws.{to_z-of_z}
+use Prim.Native.Nat.{ℕ, zero, suc, ◌+◌, ◌-◌, ◌*◌, ◌/◌, ◌≤◌, ◌<◌}
 use native.Mathlib.Nat.{div-le_of_le-mul, mul-div-le, lt-mul-div-succ, lt_of_mul-lt-mul_left, mul-le-mul_right}
 use native.Mathlib.Omega.{arith}
 use native.Mathlib.Decide.{dec_le}
-use lib.IntN.{ℤ, pos, negsuc, neg_ℤ, nat_abs, ◌-ℤ◌, ◌*ℤ◌}
+use lib.IntN.{ℤ, pos, negsuc, neg_ℤ, nat_abs, ◌*ℤ◌}
 use Rattle.planner.specs.Figure.{Within, Nearest, quotient, tenths_at}
-use Rattle.planner.proofs.SignedLaws.{held, read, mag-neg, diff-pos, diff-neg}
+use Rattle.planner.proofs.SignedLaws.{mag-neg, diff-pos, diff-neg}
 
 module _ (c t : ℕ) (t1 : 1 ≤ t) where
   -- the clock is not below T: the error is not negative
@@ -72,11 +69,6 @@ module _ (c t : ℕ) (t1 : 1 ≤ t) where
   only (pos a) (negsuc b) p q = absurd (clash a b p.within q.within (p.away (negsuc b) q.within))
   only (negsuc b) (pos a) q p = absurd (clash a b p.within q.within (p.away (negsuc b) q.within))
 
-  -- through the bits that hold the two calls' results
-  pub shown : (half whole : ℕ) (z r : ℤ) → z ≡ (pos c -ℤ pos t) *ℤ pos 2000 → mag z < 2 ^ 63 → r ≡ quotient (held z) half whole → mag r < 2 ^ 63
-      → held r ≡ quotient ((pos c -ℤ pos t) *ℤ pos 2000) half whole
-  shown half whole z r ez fz er fr = read r fr ∙ er ∙ ap (λ (x : ℤ). quotient x half whole) (read z fz ∙ ez)
-
   -- how large the figure is where the clock is at most 5000 times T
   small_by : Dec (t ≤ c) → c ≤ 5000 * t → mag (tenths_at c t) ≤ 5000000
   small_by (yes h) b = rw (figure-pos h) (div-le_of_le-mul (2 * t) (omega arith))
@@ -88,14 +80,3 @@ module _ (c t : ℕ) (t1 : 1 ≤ t) where
 
   pub small : c ≤ 5000 * t → mag (tenths_at c t) ≤ 5000000
   small b = small_by (dec_le t c) b
-
-  -- the 64 bits of the figure, cast to 32
-  pub cast_fits : (r : ℤ) → c ≤ 5000 * t → r ≡ tenths_at c t → SFits w32 (held r)
-  cast_fits r b e =
-      let h : mag r ≤ 5000000 = rw e (small b) in
-      rw (read r (omega arith)) (record { sfits = omega arith })
-
-  pub cast-value : (r : ℤ) → c ≤ 5000 * t → r ≡ tenths_at c t → to_z w32 (of_z w32 (held r)) ≡ tenths_at c t
-  cast-value r b e =
-      let h : mag r ≤ 5000000 = rw e (small b) in
-      to_z-of_z w32 (held r) (cast_fits r b e) ∙ read r (omega arith) ∙ e

@@ -15,14 +15,13 @@ use mir.ValLaws.{to_z-of_z}
 use borrow.Author.Tests.{leb-true, leb-false, le-leb, eqb-true, eqb-false}
 use Rattle.choice.specs.Pick.{pick, digit}
 use Rattle.choice.proofs.Picks.{both, pick_ind, pick_true, pick-false, split}
+use Rattle.std.proofs.Common.{Ok, Err}
 use Rattle.answer.specs.declared.Refusal.TheVariants.{Range}
-use Rattle.planner.specs.declared.outcome.Planned.TheVariants.{Done, Refused}
-use Rattle.planner.specs.declared.outcome.Checked.TheVariants.{Told, Refused as Untold}
-use Rattle.planner.specs.Setting.{samples, divisor, total, Best, Chosen}
+use Rattle.planner.specs.Setting.{samples, total, Best, Chosen}
 use Rattle.planner.specs.Figure.{tenths_at}
-use Rattle.planner.specs.Neighbour.{is_larger_no_worse, is_smaller_no_worse, is_best_by, is_best_at, ubrr_by, ubrr_at}
-use Rattle.planner.specs.Planning.{is_in_range, planned_of, tenths_of, checked_of, Plans, Checks, Refuses}
-use Rattle.planner.proofs.Sizes.{Sizes, in-range, step-least, total-least, total-most}
+use Rattle.planner.specs.Neighbour.{is_larger_no_worse, is_smaller_no_worse, is_best_at, ubrr_by, ubrr_at}
+use Rattle.planner.specs.Planning.{is_in_range, plan_at, planned_of, tenths_of, checked_of, Plans, Checks, Refuses}
+use Rattle.planner.proofs.Sizes.{Sizes, in-range, step-least, total-least}
 use Rattle.planner.proofs.NeighbourLaws.{best_of, best-larger, best-smaller}
 use Rattle.planner.proofs.ChoiceLaws.{chosen_last, chosen-same, chosen_less}
 use Rattle.planner.proofs.FigureLaws.{nearest, small}
@@ -98,40 +97,29 @@ module _ (clock rate u2x : ℕ) where
   abbrev ubrr : ℕ
   ubrr = ubrr_at clock (samples u2x) rate
 
-  pub planned : is_in_range clock rate ≡ true → planned_of clock rate u2x ≡ Done ubrr (tenths_at clock (total (samples u2x) rate ubrr))
+  pub planned : is_in_range clock rate ≡ true → planned_of clock rate u2x ≡ Ok (plan_at clock (samples u2x) rate)
   unfolding planned_of
   planned h = sym (pick_true (is_in_range clock rate) _ _ _ h refl)
 
-  pub unplanned : is_in_range clock rate ≡ false → planned_of clock rate u2x ≡ Refused Range
+  pub unplanned : is_in_range clock rate ≡ false → planned_of clock rate u2x ≡ Err Range
   unfolding planned_of
   unplanned h = sym (pick-false (is_in_range clock rate) _ _ _ h refl)
 
-  pub checked : (u : ℕ) → is_in_range clock rate ≡ true → checked_of clock rate u2x u ≡ Told (is_best_at clock (samples u2x) rate u)
+  pub checked : (u : ℕ) → is_in_range clock rate ≡ true → checked_of clock rate u2x u ≡ Ok (is_best_at clock (samples u2x) rate u)
   unfolding checked_of
   checked u h = sym (pick_true (is_in_range clock rate) _ _ _ h refl)
 
-  pub unchecked : (u : ℕ) → is_in_range clock rate ≡ false → checked_of clock rate u2x u ≡ Untold Range
+  pub unchecked : (u : ℕ) → is_in_range clock rate ≡ false → checked_of clock rate u2x u ≡ Err Range
   unfolding checked_of
   unchecked u h = sym (pick-false (is_in_range clock rate) _ _ _ h refl)
 
   -- .. by the numbers that the code has
-  pub check_done : (u : ℕ) {s : ℕ} {b : Bool} → is_in_range clock rate ≡ true → s ≡ samples u2x → b ≡ is_best_by clock (s * rate) u
-      → Told b ≡ checked_of clock rate u2x u
-  check_done u h e f = ap Told (f ∙ ap (λ (n : ℕ). is_best_by clock (n * rate) u) e) ∙ sym (checked u h)
-
-  module _ {s u d : ℕ} (h : is_in_range clock rate ≡ true) (es : s ≡ samples u2x) (eu : u ≡ ubrr_by clock (s * rate) (clock / (s * rate))) (ed : d ≡ divisor (samples u2x) u) where
-    is-planned : u ≡ ubrr
-    is-planned = eu ∙ ap (λ (n : ℕ). ubrr_by clock (n * rate) (clock / (n * rate))) es
-
-    pub plan-sizes : (clock ≤ 400000000000) × ((d * rate ≤ 400000000000) × ((1 ≤ d * rate) × (clock ≤ 5000 * (d * rate))))
-    plan-sizes =
-        let z = in-range clock rate u2x h in
-        let c = chosen_at clock (samples u2x) rate z in
-        rw (ed, is-planned)
-        (omega (arith, z.clock-most), (omega (arith, total-most z.S-most z.rate-most c.best.fits), (total-least ubrr z.S-least z.rate-least, best-clock clock (samples u2x) rate z ubrr c.best)))
-
-    pub plan-done : (e : ℤ) → e ≡ tenths_at clock (d * rate) → mag e < 2 ^ 31 → Done u (to_z w32 (of_z w32 e)) ≡ planned_of clock rate u2x
-    plan-done e ee fits = rw (to_z-of_z w32 e (record { sfits = fits }), ee, ed, is-planned) (sym (planned h))
+  pub plan-done : {c k u : ℕ} → is_in_range clock rate ≡ true → c ≡ clock → k ≡ samples u2x * rate → u ≡ ubrr_by c k (c / k)
+      → (e : ℤ) → e ≡ tenths_at c (k * (u + 1)) → mag e < 2 ^ 31
+      → Ok (record { ubrr = u; tenths = to_z w32 (of_z w32 e) }) ≡ planned_of clock rate u2x
+  plan-done {c} {k} {u} h ec ek eu e ee fits =
+      let et : k * (u + 1) ≡ total (samples u2x) rate u = rw ek (omega arith) in
+      rw (to_z-of_z w32 e (record { sfits = fits }), ee, et, eu, ec, ek) (sym (planned h))
 
   pub checks : (u : ℕ) → is_in_range clock rate ≡ true → Checks clock rate u2x u
   checks u h =

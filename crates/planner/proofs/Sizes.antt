@@ -1,14 +1,13 @@
 -- How large the numbers are that the code makes, so that each fits its width.
 use mathlib.Core.Path.{◌≡◌}
-use mathlib.Core.Bool.{true, false}
-use Prim.Native.Nat.{ℕ, zero, suc, ◌+◌, ◌*◌, ◌≤◌}
+use mathlib.Core.Bool.{true}
+use Prim.Native.Nat.{ℕ, ◌*◌, ◌≤◌}
 use native.Mathlib.Nat.{mul-le-mul}
 use native.Mathlib.Omega.{arith}
 use lib.Dec.{eqb, leb}
-use borrow.Author.Tests.{leb-true, leb-false}
+use borrow.Author.Tests.{leb-true}
 use Rattle.choice.proofs.Picks.{both, pick_ind}
 use Rattle.planner.specs.Setting.{samples, total}
-use Rattle.planner.specs.Neighbour.{is_larger_no_worse}
 use Rattle.planner.specs.Planning.{is_in_range}
 
 -- a clock and a rate in range, and S
@@ -39,42 +38,9 @@ in-range clock rate u2x h =
     }
 
 -- S·rate
-pub step-most : {S rate : ℕ} → S ≤ 16 → rate ≤ 2500000 → S * rate ≤ 40000000
-step-most h k = mul-le-mul h k
-
 pub step-least : {S rate : ℕ} → 1 ≤ S → 1 ≤ rate → 1 ≤ S * rate
 step-least h k = mul-le-mul h k
 
--- the two sides of a comparison
-pub clock-side-most : {clock m : ℕ} → clock ≤ 20000000 → m ≤ 4096 → clock * (m + (m + 1)) ≤ 20000000 * 8193
-clock-side-most h k = mul-le-mul {m₂ = 8193} h (omega arith)
-
-pub pair-most : {m : ℕ} → m ≤ 4096 → m * (m + 1) ≤ 4096 * 4097
-pair-most k = mul-le-mul {m₂ = 4097} k (omega arith)
-
-pub step-side-most : {k m : ℕ} → k ≤ 40000000 → m ≤ 4096 → k * (m * (m + 1)) ≤ 40000000 * (4096 * 4097)
-step-side-most h k = mul-le-mul h (pair-most k)
-
--- where the larger divisor is worse, the smaller is not 0
-pub above_zero : (clock k q : ℕ) → is_larger_no_worse clock k q ≡ false → 1 ≤ q
-above_zero clock k zero h = omega (arith, leb-false (2 * (k * (0 * (0 + 1)))) (clock * (0 + (0 + 1))) h)
-above_zero clock k (suc q) h = omega arith
-
--- the divisor, of any UBRR in 16 bits and of one that fits, and T
-pub divisor-wide : {S u : ℕ} → S ≤ 16 → u ≤ 65535 → S * (u + 1) ≤ 16 * 65536
-divisor-wide h k = mul-le-mul {m₂ = 65536} h (omega arith)
-
-divisor-most : {S u : ℕ} → S ≤ 16 → u ≤ 4095 → S * (u + 1) ≤ 16 * 4096
-divisor-most h k = mul-le-mul {m₂ = 4096} h (omega arith)
-
-pub total-most : {S rate u : ℕ} → S ≤ 16 → rate ≤ 2500000 → u ≤ 4095 → total S rate u ≤ 16 * 4096 * 2500000
-total-most h r k = mul-le-mul (divisor-most h k) r
-
+-- T
 pub total-least : {S rate : ℕ} (u : ℕ) → 1 ≤ S → 1 ≤ rate → 1 ≤ total S rate u
 total-least u h r = mul-le-mul {n₁ = 1} {m₁ = 1} (mul-le-mul {n₁ = 1} {m₁ = 1} h (omega arith)) r
-
--- .. by the numbers that the code has
-pub step-sizes : (clock rate u2x : ℕ) {s : ℕ} → is_in_range clock rate ≡ true → s ≡ samples u2x → (clock ≤ 20000000) × ((1 ≤ s * rate) × (s * rate ≤ 40000000))
-step-sizes clock rate u2x {s} h e =
-    let z = in-range clock rate u2x h in
-    rw e (z.clock-most, (step-least z.S-least z.rate-least, step-most z.S-most z.rate-most))

@@ -1,51 +1,49 @@
 -- What planner and check answer (document 02, M-104).
-use Rattle.std.specs.Prelude.{◌≡◌, Bool, false, ◌↔◌, ℕ, ◌≤◌, leb, ℤ, pos}
+use Rattle.std.specs.Prelude.{◌≡◌, Bool, false, ◌↔◌, ℕ, ◌≤◌, leb, ℤ, pos, Result, Ok, Err}
 use Rattle.choice.specs.Pick.{pick, digit}
-use Rattle.answer.specs.Number.{number_of}
+use Rattle.answer.specs.Number.{number_in}
+use Rattle.answer.specs.declared.Refusal.{Refusal}
 use Rattle.answer.specs.declared.Refusal.TheVariants.{Range}
 use Rattle.planner.specs.Setting.{samples, total, Best, Chosen}
 use Rattle.planner.specs.Neighbour.{is_best_at, ubrr_at}
 use Rattle.planner.specs.Figure.{Nearest, tenths_at}
-use Rattle.planner.specs.declared.outcome.Planned.{Planned}
-use Rattle.planner.specs.declared.outcome.Planned.TheVariants.{Done, Refused}
-use Rattle.planner.specs.declared.outcome.Checked.{Checked}
-use Rattle.planner.specs.declared.outcome.Checked.TheVariants.{Told, Refused as Untold}
+use Rattle.planner.specs.declared.outcome.Plan.{Plan}
 
 -- 'For a clock of 1 to 20,000,000 Hz and a rate of 1 to 2,500,000'
 abbrev pub is_in_range : ℕ → ℕ → Bool
 is_in_range clock rate = pick (leb 1 clock) (pick (leb clock 20000000) (pick (leb 1 rate) (leb rate 2500000) false) false) false
 
--- the planner: a UBRR and its error
-unfoldable pub planned_of : ℕ → ℕ → ℕ → Planned
+-- a UBRR and its error
+abbrev pub plan_at : ℕ → ℕ → ℕ → Plan
+plan_at clock S rate = let u = ubrr_at clock S rate in record { ubrr = u; tenths = tenths_at clock (total S rate u) }
+
+-- the planner
+unfoldable pub planned_of : ℕ → ℕ → ℕ → Result Plan Refusal
 planned_of clock rate u2x =
-    pick (is_in_range clock rate)
-    (Done (ubrr_at clock (samples u2x) rate) (tenths_at clock (total (samples u2x) rate (ubrr_at clock (samples u2x) rate))))
-    (Refused Range)
+    pick (is_in_range clock rate) (Ok (plan_at clock (samples u2x) rate)) (Err Range)
 
 -- the check: yes or no
-unfoldable pub checked_of : ℕ → ℕ → ℕ → ℕ → Checked
-checked_of clock rate u2x ubrr = pick (is_in_range clock rate) (Told (is_best_at clock (samples u2x) rate ubrr)) (Untold Range)
+unfoldable pub checked_of : ℕ → ℕ → ℕ → ℕ → Result Bool Refusal
+checked_of clock rate u2x ubrr = pick (is_in_range clock rate) (Ok (is_best_at clock (samples u2x) rate ubrr)) (Err Range)
 
 -- 'else number 11 from planner and check alike, and all answers 0'
-abbrev pub plan_number_of : Planned → ℕ
-plan_number_of (Done ubrr tenths) = 0
-plan_number_of (Refused r) = number_of r
+abbrev pub plan_number_of : Result Plan Refusal → ℕ
+plan_number_of p = number_in p
 
-abbrev pub ubrr_of : Planned → ℕ
-ubrr_of (Done ubrr tenths) = ubrr
-ubrr_of (Refused r) = 0
+abbrev pub ubrr_of : Result Plan Refusal → ℕ
+ubrr_of (Ok plan) = plan.ubrr
+ubrr_of (Err r) = 0
 
-abbrev pub tenths_of : Planned → ℤ
-tenths_of (Done ubrr tenths) = tenths
-tenths_of (Refused r) = pos 0
+abbrev pub tenths_of : Result Plan Refusal → ℤ
+tenths_of (Ok plan) = plan.tenths
+tenths_of (Err r) = pos 0
 
-abbrev pub check_number_of : Checked → ℕ
-check_number_of (Told accepted) = 0
-check_number_of (Untold r) = number_of r
+abbrev pub check_number_of : Result Bool Refusal → ℕ
+check_number_of c = number_in c
 
-abbrev pub accepted_of : Checked → ℕ
-accepted_of (Told accepted) = digit accepted
-accepted_of (Untold r) = 0
+abbrev pub accepted_of : Result Bool Refusal → ℕ
+accepted_of (Ok accepted) = digit accepted
+accepted_of (Err r) = 0
 
 -- The promise, for every clock and rate in range, any byte for U2X and any proposal.
 pub record Plans (clock rate u2x : ℕ) : Type 0 where

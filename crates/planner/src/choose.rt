@@ -1,74 +1,116 @@
-// The best UBRR, by comparing neighbours alone. T is k = S·rate times the divisor UBRR + 1.
-ghost use Rattle.std.specs.Prelude.{◌≡◌, ◌+◌, ◌*◌, ◌/◌, ◌≤◌};
+// The best UBRR, by comparing neighbours alone.
+ghost use Rattle.std.specs.Prelude.{◌≡◌, ◌+◌, ◌*◌, ◌/◌, ◌≤◌, is_ok, IfOk, IfErr};
+ghost use Rattle.answer.specs.declared.Refusal.TheVariants.{Range};
+ghost use Rattle.planner.specs.Setting.{samples};
 ghost use Rattle.planner.specs.Neighbour.{is_larger_no_worse, is_smaller_no_worse, is_best_by, ubrr_by};
+ghost use Rattle.planner.specs.Figure.{tenths_at};
+ghost use Rattle.planner.specs.Planning.{is_in_range};
 
-// The two sides of a comparison of the divisors m and m + 1, both below 2 ^ 51.
-fn clock_side(clock: u64, m: u64) -> u64
-    requires clock_bound { clock ≤ 20000000 }
-    requires m_bound { m ≤ 4096 }
-    ensures { result ≡ clock * (m + (m + 1)) }
-{
-    clock * (m + (m + 1))
+use crate::figure::RateError;
+use crate::setting::{MOST_UBRR, samples};
+use answer::Refusal;
+
+// In Hz.
+const MOST_CLOCK: u32 = 20_000_000;
+
+// In baud.
+const MOST_RATE: u32 = 2_500_000;
+
+// A clock and a rate in range, at one of the two speeds. The planner's own: the program `baud` has a `Target` too, of
+// the two numbers that it shows, which knows no speed.
+#[derive(Clone, Copy)]
+pub(crate) struct Target {
+    clock: u64,
+    // S·rate: T is this times the divisor UBRR + 1.
+    k: u64,
+    ghost clock_bound: { clock ≤ 20000000 },
+    ghost le_k: { 1 ≤ k },
+    ghost k_bound: { k ≤ 40000000 },
 }
 
-fn step_side(k: u64, m: u64) -> u64
-    requires k_bound { k ≤ 40000000 }
-    requires m_bound { m ≤ 4096 }
-    ensures { result ≡ 2 * (k * (m * (m + 1))) }
+fn is_in_range(clock: u32, rate: u32) -> bool
+    ensures { result ≡ is_in_range clock rate }
 {
-    2 * (k * (m * (m + 1)))
+    (1..=MOST_CLOCK).contains(&clock) && (1..=MOST_RATE).contains(&rate)
 }
 
-fn is_larger_no_worse(clock: u64, k: u64, m: u64) -> bool
-    requires clock_bound { clock ≤ 20000000 }
-    requires k_bound { k ≤ 40000000 }
-    requires m_bound { m ≤ 4096 }
-    ensures { result ≡ is_larger_no_worse clock k m }
-{
-    step_side(k, m) <= clock_side(clock, m)
-}
+impl Target {
+    pub(crate) fn new(clock: u32, rate: u32, u2x: u8) -> Result<Target, Refusal>
+        ensures in_range { is_ok result ≡ is_in_range clock rate }
+        ensures ok { IfOk result (λ t. (t.clock ≡ clock) × (t.k ≡ samples u2x * rate)) }
+        ensures err { IfErr result (λ r. r ≡ Range) }
+    {
+        if !is_in_range(clock, rate) {
+            return Err(Refusal::Range);
+        }
+        Ok(Target {
+            clock: clock as u64,
+            k: samples(u2x) * rate as u64,
+        })
+    }
 
-fn is_smaller_no_worse(clock: u64, k: u64, m: u64) -> bool
-    requires clock_bound { clock ≤ 20000000 }
-    requires k_bound { k ≤ 40000000 }
-    requires m_bound { m ≤ 4096 }
-    ensures { result ≡ is_smaller_no_worse clock k m }
-{
-    clock_side(clock, m) <= step_side(k, m)
-}
+    // The two sides of a comparison of the divisors m and m + 1.
+    fn clock_side(self, m: u16) -> u64
+        ensures { result ≡ self.clock * (m + (m + 1)) }
+    {
+        let m = m as u64;
+        self.clock * (m + (m + 1))
+    }
 
-// Whether no UBRR has a smaller absolute error.
-pub(crate) fn is_best(clock: u64, k: u64, ubrr: u64) -> bool
-    requires clock_bound { clock ≤ 20000000 }
-    requires k_bound { k ≤ 40000000 }
-    ensures { result ≡ is_best_by clock k ubrr }
-{
-    if 4095 < ubrr {
-        return false;
+    fn step_side(self, m: u16) -> u64
+        ensures { result ≡ 2 * (self.k * (m * (m + 1))) }
+    {
+        let m = m as u64;
+        2 * (self.k * (m * (m + 1)))
     }
-    if !is_larger_no_worse(clock, k, ubrr) {
-        return false;
-    }
-    if ubrr == 4095 {
-        return true;
-    }
-    is_smaller_no_worse(clock, k, ubrr + 1)
-}
 
-// The UBRR with the smallest absolute error, the larger on a tie.
-pub(crate) fn best_ubrr(clock: u64, k: u64) -> u64
-    requires clock_bound { clock ≤ 20000000 }
-    requires le_k { 1 ≤ k }
-    requires k_bound { k ≤ 40000000 }
-    ensures value { result ≡ ubrr_by clock k (clock / k) }
-    ensures upper_bound { result ≤ 4095 }
-{
-    let q = clock / k;
-    if 4096 <= q {
-        return 4095;
+    fn is_larger_no_worse(self, m: u16) -> bool
+        ensures { result ≡ is_larger_no_worse self.clock self.k m }
+    {
+        self.step_side(m) <= self.clock_side(m)
     }
-    if is_larger_no_worse(clock, k, q) {
-        return q;
+
+    fn is_smaller_no_worse(self, m: u16) -> bool
+        ensures { result ≡ is_smaller_no_worse self.clock self.k m }
+    {
+        self.clock_side(m) <= self.step_side(m)
     }
-    q - 1
+
+    // Whether no UBRR has a smaller absolute error.
+    pub(crate) fn is_best(self, ubrr: u32) -> bool
+        ensures { result ≡ is_best_by self.clock self.k ubrr }
+    {
+        let Ok(m) = u16::try_from(ubrr) else {
+            return false;
+        };
+        m <= MOST_UBRR
+            && self.is_larger_no_worse(m)
+            && (m == MOST_UBRR || self.is_smaller_no_worse(m + 1))
+    }
+
+    // The UBRR with the smallest absolute error, the larger on a tie.
+    pub(crate) fn best_ubrr(self) -> u16
+        ensures value { result ≡ ubrr_by self.clock self.k (self.clock / self.k) }
+        ensures upper_bound { result ≤ 4095 }
+    {
+        let q = self.clock / self.k;
+        if (MOST_UBRR as u64) < q {
+            return MOST_UBRR;
+        }
+        let m = q as u16;
+        if self.is_larger_no_worse(m) { m } else { m - 1 }
+    }
+
+    // The error at a best UBRR, in tenths of a percent.
+    pub(crate) fn tenths(self, ubrr: u16) -> i32
+        requires ubrr_bound { ubrr ≤ 4095 }
+        requires clock_bound { self.clock ≤ 5000 * (self.k * (ubrr + 1)) }
+        ensures { result ≡ tenths_at self.clock (self.k * (ubrr + 1)) }
+    {
+        let error = RateError {
+            clock: self.clock,
+            t: self.k * (ubrr as u64 + 1),
+        };
+        error.tenths()
+    }
 }

@@ -8,6 +8,6 @@ mod outcome;
 mod planning;
 mod setting;
 
-pub use outcome::{Checked, Planned};
+pub use outcome::Plan;
 pub use planning::{check, plan};
 pub use setting::divisor;

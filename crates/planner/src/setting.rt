@@ -1,7 +1,10 @@
 ghost use Rattle.std.specs.Prelude.{◌≡◌, ◌*◌, ◌≤◌};
 ghost use Rattle.planner.specs.Setting.{samples, divisor, total};
 
-// S, by U2X as a byte.
+pub(crate) const MOST_UBRR: u16 = 4095;
+
+// S, by U2X as a byte, the call's of C, so that no value of it lies outside the proof. `Format::samples` of crate frame
+// answers the same of a device's format, and the planner knows no device.
 pub(crate) fn samples(u2x: u8) -> u64
     ensures value { result ≡ samples u2x }
     ensures lower_bound { 8 ≤ result }
