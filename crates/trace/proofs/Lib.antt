@@ -1,14 +1,15 @@
 pub mod Examples
-pub mod Turns
 pub mod LineMeaning
 pub mod LineFound
 pub mod TextMeaning
+pub mod LinesLaws
 pub mod ContentsLaws
 pub mod Reading
 pub mod LineCount
 pub mod PutLaws
 pub mod FillLaws
 pub mod EntryLaws
+pub mod ChunkLaws
 pub mod ListMeaning
 pub mod ShrinkLaws
 pub mod OutLaws

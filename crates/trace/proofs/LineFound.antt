@@ -3,28 +3,25 @@ use Prim.Native.Nat.{ℕ, ◌+◌, ◌<◌, ◌≤◌}
 use mathlib.Core.Path.{◌≡◌, refl, ap, sym, ◌∙◌}
 use mathlib.Core.List.{List, ◌∷◌, ◌++◌, append_assoc}
 use native.Mathlib.Omega.{arith}
-use lib.Dec.{ltb, eqb, lit<}
+use lib.Dec.{ltb, lit<}
 use lib.ListN.{length, get_or, drop, length-drop}
 use lib.Seq.{drop-drop, get_or-drop}
 use borrow.Author.Tests.{lt-ltb, ltb-true, ltb-false, ne_eqb}
-use Rattle.choice.proofs.Picks.{split, pick_ind}
+use Rattle.std.specs.Prelude.{Option, Some, None}
+use Rattle.std.specs.Option.{ok_or}
+use Rattle.choice.proofs.Picks.{split}
 use Rattle.decimal.specs.Digits.{digits_of}
 use Rattle.decimal.proofs.FieldMeaning.{field_found}
 use Rattle.trace.specs.Text.{InRange, letter_of, numbers_of, fields_of, line_of}
-use Rattle.trace.specs.Line.{pair_at, triple_at, write_by, read_by, vector_by, clocks_by, item_at, line_at}
+use Rattle.trace.specs.Line.{two, pair_at, three, triple_at, item_line, item_at, fields_at, found, malformed, no_line, line_at}
 use Rattle.trace.specs.Meaning.{NoLine}
 use Rattle.trace.specs.declared.item.Item.{Item}
 use Rattle.trace.specs.declared.item.Item.TheVariants.{Write, Read, Vector, Clocks}
-use Rattle.trace.specs.declared.line.Pair.{Pair}
-use Rattle.trace.specs.declared.line.Pair.TheVariants.{Numbers as Two, Malformed as NoPair}
-use Rattle.trace.specs.declared.line.Triple.{Triple}
-use Rattle.trace.specs.declared.line.Triple.TheVariants.{Numbers as Three, Malformed as NoTriple}
 use Rattle.trace.specs.declared.line.Line.{Line}
-use Rattle.trace.specs.declared.line.Line.TheVariants.{Found, Malformed, End}
 
 module _ (text : List ℕ) (at : ℕ) (s : List ℕ) where
   pair_found : (first second x y : ℕ) → x ≤ first → y ≤ second → drop at text ≡ digits_of x ++ 9 ∷ (digits_of y ++ 10 ∷ s)
-      → (next : ℕ) × (pair_at text at first second ≡ Two x y next) × (drop next text ≡ s)
+      → (next : ℕ) × (pair_at text at first second ≡ two x y next) × (drop next text ≡ s)
   unfolding pair_at
   pair_found first second x y lx ly e =
       let f = field_found text at first 9 x (digits_of y ++ 10 ∷ s) (lit< tt) lx e in
@@ -32,15 +29,15 @@ module _ (text : List ℕ) (at : ℕ) (s : List ℕ) where
       (g.next, rw f.found (rw g.found refl), g.left)
 
 triple-found : (text : List ℕ) (at : ℕ) (s : List ℕ) (x y z : ℕ) → x ≤ 255 → y ≤ 255 → z ≤ 255 → drop at text ≡ digits_of x ++ 9 ∷ (digits_of y ++ 9 ∷ (digits_of z ++ 10 ∷ s))
-    → (next : ℕ) × (triple_at text at ≡ Three x y z next) × (drop next text ≡ s)
+    → (next : ℕ) × (triple_at text at ≡ three x y z next) × (drop next text ≡ s)
 unfolding triple_at
 triple-found text at s x y z lx ly lz e =
     let f = field_found text at 255 9 x (digits_of y ++ 9 ∷ (digits_of z ++ 10 ∷ s)) (lit< tt) lx e in
     let g = pair_found text f.next s 255 255 y z ly lz f.left in
     (g.0, rw f.found (rw g.1 refl), g.2)
 
-abbrev Finds : List ℕ → ℕ → List ℕ → Item → Line → Type 0
-Finds text at s i found = (next : ℕ) × (found ≡ Found i next) × (drop next text ≡ s)
+abbrev Finds : List ℕ → ℕ → List ℕ → Item → Option Line → Type 0
+Finds text at s i line = (next : ℕ) × (line ≡ item_line i next) × (drop next text ≡ s)
 
 item-found : (text : List ℕ) (at : ℕ) (s : List ℕ) (i : Item) → InRange i → drop at text ≡ fields_of (numbers_of i) ++ s → Finds text at s i (item_at text (letter_of i) at)
 unfolding item_at
@@ -60,59 +57,33 @@ two_bytes text at a b s e =
     let g : get_or text (at + 0) 0 ≡ a = sym (get_or-drop at text 0 0) ∙ rw e refl in
     (omega (arith, length-drop at text, ap length e), rw z at g, sym (get_or-drop at text 1 0) ∙ rw e refl, sym (drop-drop 2 at text) ∙ rw e refl)
 
-pub line-found : (text : List ℕ) (at : ℕ) (s : List ℕ) (i : Item) → InRange i → drop at text ≡ line_of i ++ s → Finds text at s i (line_at text at)
-unfolding line_at
+pub line-found : (text : List ℕ) (at : ℕ) (s : List ℕ) (i : Item) → InRange i → drop at text ≡ line_of i ++ s
+    → (next : ℕ) × (line_at text at ≡ found i next) × (drop next text ≡ s)
+unfolding line_at fields_at
 line-found text at s i l e =
     let b = two_bytes text at (letter_of i) 9 (fields_of (numbers_of i) ++ s) e in
     let f = item-found text (at + 2) s i l b.3 in
-    (f.0, rw (lt-ltb at (length text) b.0, b.2, b.1) f.1, f.2)
+    (f.0, rw (lt-ltb at (length text) b.0, b.2, b.1) (ap (λ (o : Option Line). Some (ok_or o (record {}))) f.1), f.2)
 
 -- a malformed line is no item's
-pub line-not : (text : List ℕ) (at : ℕ) → line_at text at ≡ Malformed → NoLine (drop at text)
-line-not text at m i s l e = let f = line-found text at s i l e in let q : Found i f.0 ≡ Malformed = sym f.1 ∙ m in absurd (let z : ◌≡◌ {A = ℕ} 0 1 = cc in omega arith)
+pub line-not : (text : List ℕ) (at : ℕ) → line_at text at ≡ malformed → NoLine (drop at text)
+line-not text at m i s l e =
+    let f = line-found text at s i l e in
+    let q : found i f.0 ≡ malformed = sym f.1 ∙ m in absurd (let z : ◌≡◌ {A = ℕ} 0 1 = cc in omega arith)
 
 -- and it is a line
-pub line-left : (text : List ℕ) (at : ℕ) → line_at text at ≡ Malformed → at < length text
+pub line-left : (text : List ℕ) (at : ℕ) → line_at text at ≡ malformed → at < length text
 unfolding line_at
-line-left text at m = split (ltb at (length text)) (λ h. ltb-true at (length text) h) (λ h. let w : End ≡ Malformed = rw h at m in absurd (let z : ◌≡◌ {A = ℕ} 0 1 = cc in omega arith))
+line-left text at m =
+    split (ltb at (length text)) (λ h. ltb-true at (length text) h)
+    (λ h. let w : no_line ≡ malformed = rw h at m in absurd (let z : ◌≡◌ {A = ℕ} 0 1 = cc in omega arith))
 
 -- within the text there is a line
-abbrev NotEnd : Line → Type 0
-NotEnd r = r ≡ End → ⊥
+some-line : (o : Option Line) → Some (ok_or o (record {})) ≡ no_line → ⊥
+some-line None e = absurd (let z : ◌≡◌ {A = ℕ} 0 1 = cc in omega arith)
+some-line (Some l) e = absurd (let z : ◌≡◌ {A = ℕ} 0 1 = cc in omega arith)
 
-bad : NotEnd Malformed
-bad e = absurd (let z : ◌≡◌ {A = ℕ} 0 1 = cc in omega arith)
-
-good : (i : Item) (next : ℕ) → NotEnd (Found i next)
-good i next e = absurd (let z : ◌≡◌ {A = ℕ} 0 1 = cc in omega arith)
-
-write-line : (t : Triple) → NotEnd (write_by t)
-write-line NoTriple = bad
-write-line (Three a v n next) = good (Write a v n) next
-
-read-line : (t : Triple) → NotEnd (read_by t)
-read-line NoTriple = bad
-read-line (Three a v n next) = good (Read a v n) next
-
-vector_line : (t : Pair) → NotEnd (vector_by t)
-vector_line NoPair = bad
-vector_line (Two k n next) = good (Vector k n) next
-
-clocks-line : (t : Pair) → NotEnd (clocks_by t)
-clocks-line NoPair = bad
-clocks-line (Two l c next) = pick_ind NotEnd (eqb c 0) Malformed (Found (Clocks l c) next) (λ h. bad) (λ h. good (Clocks l c) next)
-
-item-line : (text : List ℕ) (letter at : ℕ) → NotEnd (item_at text letter at)
-unfolding item_at
-item-line text letter at =
-    pick_ind NotEnd (eqb letter 87) _ _ (λ h. write-line (triple_at text at)) (λ h.
-    pick_ind NotEnd (eqb letter 82) _ _ (λ h. read-line (triple_at text at)) (λ h.
-    pick_ind NotEnd (eqb letter 65) _ _ (λ h. vector_line (pair_at text at 255 255)) (λ h.
-    pick_ind NotEnd (eqb letter 67) _ _ (λ h. clocks-line (pair_at text at 31 4294967295)) (λ h. bad))))
-
-pub line-end : (text : List ℕ) (at : ℕ) → line_at text at ≡ End → length text ≤ at
+pub line-end : (text : List ℕ) (at : ℕ) → line_at text at ≡ no_line → length text ≤ at
 unfolding line_at
 line-end text at m =
-    split (ltb at (length text))
-    (λ h. absurd (pick_ind NotEnd (eqb (get_or text (at + 1) 0) 9) (item_at text (get_or text at 0) (at + 2)) Malformed (λ t. item-line text (get_or text at 0) (at + 2)) (λ t. bad) (rw h at m)))
-    (λ h. ltb-false at (length text) h)
+    split (ltb at (length text)) (λ h. absurd (some-line (fields_at text at) (rw h at m))) (λ h. ltb-false at (length text) h)

@@ -10,20 +10,19 @@ use lib.ListN.{length, get_or, drop, length-drop, drop_of_length-le}
 use lib.Pow.{are_bytes}
 use lib.Seq.{drop-cons, drop-drop, get_or-drop}
 use borrow.Author.Tests.{le-ltb, ltb-true, ltb-false, eq-eqb, ne_eqb, eqb-true}
+use Rattle.std.specs.Prelude.{Option, Some, None}
 use Rattle.choice.proofs.Picks.{split, clash, pick_ind}
 use Rattle.trace.specs.Listing.{entry_of, bytes_of, list_of, short_at, long_at, clocks_from, call_from, entry_from, entry_at, Listing, with_entry, listing_at, listing_of}
 use Rattle.trace.specs.Promises.{Lists}
 use Rattle.trace.specs.Text.{InRange, AllInRange}
 use Rattle.trace.specs.declared.item.Item.{Item}
 use Rattle.trace.specs.declared.item.Item.TheVariants.{Write, Read, Vector, Clocks}
-use Rattle.trace.specs.declared.listing.Entry.{Entry}
-use Rattle.trace.specs.declared.listing.Entry.TheVariants.{Held, Outside}
 use Rattle.trace.proofs.EntryLaws.{entry-there, entry-within, listing-entry, listing-over}
 
 -- ---- what an entry's numbers are read as
-abbrev Stands : ℕ → ℕ → ℕ → ℕ → Entry → Type 0
-Stands letter n place amount (Held i) = InRange i × (entry_of letter n place amount ≡ bytes_of i)
-Stands letter n place amount Outside = Unit {0}
+abbrev Stands : ℕ → ℕ → ℕ → ℕ → Option Item → Type 0
+Stands letter n place amount (Some i) = InRange i × (entry_of letter n place amount ≡ bytes_of i)
+Stands letter n place amount None = Unit {0}
 
 module _ (letter n place amount : ℕ) (byte : n ≤ 255) (top : amount ≤ 4294967295) where
   clocks-stand : eqb letter 67 ≡ true → Stands letter n place amount (clocks_from n place amount)
@@ -117,12 +116,12 @@ module _ (l : List ℕ) (at : ℕ) where
       eight h ∙ rw (s.0, s.1, f.0, f.1, f.2, f.3)
 
   -- an entry that is read as an item has its bytes
-  entry-is : are_bytes l ≡ true → (i : Item) → entry_at l at ≡ Held i → InRange i × (drop at l ≡ bytes_of i ++ drop (at + 8) l)
+  entry-is : are_bytes l ≡ true → (i : Item) → entry_at l at ≡ Some i → InRange i × (drop at l ≡ bytes_of i ++ drop (at + 8) l)
   entry-is b i e =
       let h = entry-within l at i e in
       let f = apart (get_or l (at + 4) 0) (get_or l (at + 5) 0) (get_or l (at + 6) 0) (get_or l (at + 7) 0)
       (byte_at l (at + 4) b) (byte_at l (at + 5) b) (byte_at l (at + 6) b) (byte_at l (at + 7) b) in
-      let q : entry_from (get_or l at 0) (get_or l (at + 1) 0) (short_at l at) (long_at l at) ≡ Held i = entry-there l at _ h refl ∙ e in
+      let q : entry_from (get_or l at 0) (get_or l (at + 1) 0) (short_at l at) (long_at l at) ≡ Some i = entry-there l at _ h refl ∙ e in
       let s = subst (Stands (get_or l at 0) (get_or l (at + 1) 0) (short_at l at) (long_at l at)) q
       (entry-stands (get_or l at 0) (get_or l (at + 1) 0) (short_at l at) (long_at l at) (omega (arith, byte_at l (at + 1) b)) f.4) in
       (s.0, entry-bytes b h ∙ ap (λ (x : List ℕ). x ++ drop (at + 8) l) s.1)
@@ -142,9 +141,9 @@ module _ (l : List ℕ) (at : ℕ) where
       (sym (entry-there l at (entry_from letter n place amount) m (rw (b0, g 1, short, long))), m, sym (drop-drop 8 at l) ∙ ap (drop 8) e)
 
   abbrev Read-back : Item → List ℕ → Type 0
-  Read-back i s = (entry_at l at ≡ Held i) × (at + 8 ≤ length l) × (drop (at + 8) l ≡ s)
+  Read-back i s = (entry_at l at ≡ Some i) × (at + 8 ≤ length l) × (drop (at + 8) l ≡ s)
 
-  read_as : {e : Entry} (i : Item) (s : List ℕ) → e ≡ Held i → (entry_at l at ≡ e) × (at + 8 ≤ length l) × (drop (at + 8) l ≡ s) → Read-back i s
+  read_as : {e : Option Item} (i : Item) (s : List ℕ) → e ≡ Some i → (entry_at l at ≡ e) × (at + 8 ≤ length l) × (drop (at + 8) l ≡ s) → Read-back i s
   read_as i s q r = (r.0 ∙ q, r.1, r.2)
 
   entry_found : (i : Item) (s : List ℕ) → InRange i → drop at l ≡ bytes_of i ++ s → Read-back i s
@@ -164,15 +163,15 @@ module _ (list : List ℕ) (b : are_bytes list ≡ true) where
   over : (at : ℕ) → length list ≤ at → Sound (drop at list) (listing_at list at)
   over at h = rw (listing-over list at h) (record { range = tt; shown = λ e. drop_of_length-le list h })
 
-  entry-holds : (at : ℕ) → at < length list → Sound (drop (at + 8) list) (listing_at list (at + 8)) → (e : Entry) → entry_at list at ≡ e
+  entry-holds : (at : ℕ) → at < length list → Sound (drop (at + 8) list) (listing_at list (at + 8)) → (e : Option Item) → entry_at list at ≡ e
       → Sound (drop at list) (listing_at list at)
-  entry-holds at h r (Held i) e =
+  entry-holds at h r (Some i) e =
       let q = entry-is list at b i e in
-      rw (listing-entry list at (Held i) h (sym e)) (record {
+      rw (listing-entry list at (Some i) h (sym e)) (record {
         range = (q.0, r.range);
         shown = λ s. q.1 ∙ ap (λ (x : List ℕ). bytes_of i ++ x) (r.shown s);
       })
-  entry-holds at h r Outside e = rw (listing-entry list at Outside h (sym e)) (record { range = tt; shown = λ s. clash s refl })
+  entry-holds at h r None e = rw (listing-entry list at None h (sym e)) (record { range = tt; shown = λ s. clash s refl })
 
   holds : (n at : ℕ) → length list ≤ at + n → Sound (drop at list) (listing_at list at)
   holds zero at h = over at (omega arith)
@@ -185,7 +184,7 @@ listing-found : (list : List ℕ) (at : ℕ) (is : List Item) → AllInRange is 
 listing-found list at [] h e = listing-over list at (omega (arith, length-drop at list, ap length e))
 listing-found list at (i ∷ is) h e =
     let r = entry_found list at i (list_of is) h.0 e in
-    listing-entry list at (Held i) (omega (arith, r.1)) (sym r.0) ∙ ap (with_entry (Held i)) (listing-found list (at + 8) is h.1 r.2)
+    listing-entry list at (Some i) (omega (arith, r.1)) (sym r.0) ∙ ap (with_entry (Some i)) (listing-found list (at + 8) is h.1 r.2)
 
 pub lists : (list : List ℕ) → are_bytes list ≡ true → Lists list
 lists list b = record {

@@ -12,6 +12,7 @@ use Rattle.trace.specs.declared.item.Item.{Item}
 use Rattle.trace.specs.declared.item.Item.TheVariants.{Write, Read, Vector, Clocks}
 use Rattle.trace.specs.Shrinking.{most, clocks_before, merged_of, rest_of, parts_of, cut_of, shrunk_of}
 use Rattle.trace.specs.Turning.{out_of, added_turn, turn_of, out_at}
+use Rattle.trace.specs.declared.turn.Run.{Run}
 use Rattle.trace.specs.declared.turn.Turn.{Turn}
 
 module _ (full : ℕ) (some : 0 < full) where
@@ -96,30 +97,30 @@ out-full l k (Clocks m d ∷ is) =
     (λ e. rw e (ap (λ (x : List Item). x ++ out_of most m d is) (parts-full most (lit< tt) l k)))
 
 -- what goes out at an item, and what is left to go out
-Goes : ℕ → Item → List Item → List Item → Turn → Type 0
-Goes l i is all t = all ≡ out_at l t.out i ++ out_of most t.levels t.clocks is
+Goes : Item → List Item → List Item → Turn → Type 0
+Goes i is all t = all ≡ out_at t.out i ++ out_of most t.held.levels t.held.clocks is
 
-goes-added : (l m n d : ℕ) (is : List Item) → Goes l (Clocks m d) is (out_of most l (n + d) is) (added_turn l n d)
+goes-added : (r : Run) (m d : ℕ) (is : List Item) → Goes (Clocks m d) is (out_of most r.levels (r.clocks + d) is) (added_turn r d)
 unfolding Goes added_turn
-goes-added l m n d is =
-    split (ltb most (n + d))
-    (λ e. let p : most + (n + d - most) ≡ n + d = omega (arith, ltb-true most (n + d) e) in
-    rw e (ap (λ (x : ℕ). out_of most l x is) (sym p) ∙ out-full l (n + d - most) is))
+goes-added r m d is =
+    split (ltb most (r.clocks + d))
+    (λ e. let p : most + (r.clocks + d - most) ≡ r.clocks + d = omega (arith, ltb-true most (r.clocks + d) e) in
+    rw e (ap (λ (x : ℕ). out_of most r.levels x is) (sym p) ∙ out-full r.levels (r.clocks + d - most) is))
     (λ e. rw e)
 
 goes-call : (l n : ℕ) (i : Item) (is : List Item) → n ≤ most → parts_of most l n ++ i ∷ out_of most l 0 is ≡ (rest_of l n ++ i ∷ []) ++ out_of most l 0 is
 goes-call l n i is h = ap (λ (x : List Item). x ++ i ∷ out_of most l 0 is) (parts-small l n h) ∙ sym (append_assoc (rest_of l n) (i ∷ []) (out_of most l 0 is))
 
-pub turn-goes : (l n : ℕ) (i : Item) (is : List Item) → n ≤ most
-    → out_of most l n (i ∷ is) ≡ out_at l (turn_of l n i).out i ++ out_of most (turn_of l n i).levels (turn_of l n i).clocks is
+pub turn-goes : (r : Run) (i : Item) (is : List Item) → r.clocks ≤ most
+    → out_of most r.levels r.clocks (i ∷ is) ≡ out_at (turn_of r i).out i ++ out_of most (turn_of r i).held.levels (turn_of r i).held.clocks is
 unfolding out_of turn_of Goes
-turn-goes l n (Write a v m) is h = goes-call l n (Write a v m) is h
-turn-goes l n (Read a v m) is h = goes-call l n (Read a v m) is h
-turn-goes l n (Vector k m) is h = goes-call l n (Vector k m) is h
-turn-goes l n (Clocks m d) is h =
-    split (eqb l m)
-    (λ e. rw e (goes-added l m n d is))
-    (λ e. rw e (ap (λ (x : List Item). x ++ out_of most m d is) (parts-small l n h ∙ sym (append-nil (rest_of l n)))))
+turn-goes r (Write a v m) is h = goes-call r.levels r.clocks (Write a v m) is h
+turn-goes r (Read a v m) is h = goes-call r.levels r.clocks (Read a v m) is h
+turn-goes r (Vector k m) is h = goes-call r.levels r.clocks (Vector k m) is h
+turn-goes r (Clocks m d) is h =
+    split (eqb r.levels m)
+    (λ e. rw e (goes-added r m d is))
+    (λ e. rw e (ap (λ (x : List Item). x ++ out_of most m d is) (parts-small r.levels r.clocks h ∙ sym (append-nil (rest_of r.levels r.clocks)))))
 
 pub out-end : (l n : ℕ) → n ≤ most → out_of most l n [] ≡ rest_of l n
 unfolding out_of

@@ -7,7 +7,7 @@ use lib.ListN.{length, drop}
 use Rattle.trace.specs.Text.{InRange, AllInRange, line_of, lines_of, first_line}
 use Rattle.trace.specs.Meaning.{NoLine, IsText, MalformedAt, first, later}
 use Rattle.trace.specs.declared.item.Item.{Item}
-use Rattle.trace.specs.declared.line.Line.TheVariants.{Found}
+use Rattle.trace.proofs.LineMeaning.{same_found}
 use Rattle.trace.proofs.LineFound.{line-found}
 
 -- two lines that begin the same list are of the same item
@@ -16,9 +16,8 @@ same_line i j s t p q e =
     let text : List ℕ = line_of i ++ s in
     let f = line-found text 0 s i p refl in
     let g = line-found text 0 t j q e in
-    let h : Found i f.0 ≡ Found j g.0 = sym f.1 ∙ g.1 in
-    let n : f.0 ≡ g.0 = cc in
-    (cc, sym f.2 ∙ ap (λ (k : ℕ). drop k text) n ∙ g.2)
+    let h = same_found (sym f.1 ∙ g.1) in
+    (h.0, sym f.2 ∙ ap (λ (k : ℕ). drop k text) h.1 ∙ g.2)
 
 lines-inj : (is js : List Item) → AllInRange is → AllInRange js → lines_of is ≡ lines_of js → is ≡ js
 lines-inj [] [] p q e = refl

@@ -1,9 +1,13 @@
 pub mod Text
 pub mod Line
+pub mod Lines
 pub mod Contents
 pub mod Meaning
 pub mod Listing
 pub mod Putting
+pub mod Sinks
+pub mod Gauges
+pub mod Pages
 pub mod Shrinking
 pub mod Turning
 pub mod Filling

@@ -1,12 +1,10 @@
 -- A list of items as a rig gives it (document 02, M-109: 'the list's form is yours'): eight bytes an item. What such a
 -- list holds is the items up to the first entry that is outside M-100's ranges, and whether there is none; that this is
 -- the inverse of `list_of` is stated as `Lists` in specs/Promises.antt.
-use Rattle.std.specs.Prelude.{ℕ, zero, suc, ◌+◌, ◌*◌, ◌-◌, ◌/◌, ◌%◌, Bool, true, false, List, [], ◌∷◌, ◌++◌, leb, ltb, eqb, length, get_or}
+use Rattle.std.specs.Prelude.{ℕ, zero, suc, ◌+◌, ◌*◌, ◌-◌, ◌/◌, ◌%◌, Bool, true, false, Option, Some, None, List, [], ◌∷◌, ◌++◌, leb, ltb, eqb, length, get_or}
 use Rattle.choice.specs.Pick.{pick}
 use Rattle.trace.specs.declared.item.Item.{Item}
 use Rattle.trace.specs.declared.item.Item.TheVariants.{Write, Read, Vector, Clocks}
-use Rattle.trace.specs.declared.listing.Entry.{Entry}
-use Rattle.trace.specs.declared.listing.Entry.TheVariants.{Held, Outside}
 
 -- a number in two bytes and in four, low byte first
 abbrev pub short_bytes : ℕ → List ℕ
@@ -39,29 +37,29 @@ long_at list at =
     get_or list (at + 4) 0 + 256 * get_or list (at + 5) 0 + 65536 * get_or list (at + 6) 0 + 16777216 * get_or list (at + 7) 0
 
 -- clocks: levels up to 31, at least one clock, and no address
-unfoldable pub clocks_from : ℕ → ℕ → ℕ → Entry
+unfoldable pub clocks_from : ℕ → ℕ → ℕ → Option Item
 clocks_from n place amount =
-    pick (ltb 31 n) Outside (pick (eqb place 0) (pick (eqb amount 0) Outside (Held (Clocks n amount))) Outside)
+    pick (ltb 31 n) None (pick (eqb place 0) (pick (eqb amount 0) None (Some (Clocks n amount))) None)
 
 -- a call: address or vector and value up to 255, and no value with a vector
-unfoldable pub call_from : ℕ → ℕ → ℕ → ℕ → Entry
+unfoldable pub call_from : ℕ → ℕ → ℕ → ℕ → Option Item
 call_from letter n place amount =
-    pick (ltb 255 place) Outside
-    (pick (ltb 255 amount) Outside
-    (pick (eqb letter 87) (Held (Write place amount n))
-    (pick (eqb letter 82) (Held (Read place amount n))
-    (pick (eqb letter 65) (pick (eqb amount 0) (Held (Vector place n)) Outside)
-    Outside))))
+    pick (ltb 255 place) None
+    (pick (ltb 255 amount) None
+    (pick (eqb letter 87) (Some (Write place amount n))
+    (pick (eqb letter 82) (Some (Read place amount n))
+    (pick (eqb letter 65) (pick (eqb amount 0) (Some (Vector place n)) None)
+    None))))
 
-abbrev pub entry_from : ℕ → ℕ → ℕ → ℕ → Entry
+abbrev pub entry_from : ℕ → ℕ → ℕ → ℕ → Option Item
 entry_from letter n place amount = pick (eqb letter 67) (clocks_from n place amount) (call_from letter n place amount)
 
 -- the entry at a place; fewer than eight bytes are none
-unfoldable pub entry_at : List ℕ → ℕ → Entry
+unfoldable pub entry_at : List ℕ → ℕ → Option Item
 entry_at list at =
     pick (leb (at + 8) (length list))
     (entry_from (get_or list at 0) (get_or list (at + 1) 0) (short_at list at) (long_at list at))
-    Outside
+    None
 
 pub record Listing : Type 0 where
   pub items : List Item
@@ -71,9 +69,9 @@ pub record Listing : Type 0 where
 abbrev pub listed : Bool → Listing
 listed b = record { items = []; sound = b }
 
-abbrev pub with_entry : Entry → Listing → Listing
-with_entry (Held i) r = record { items = i ∷ r.items; sound = r.sound }
-with_entry Outside r = listed false
+abbrev pub with_entry : Option Item → Listing → Listing
+with_entry (Some i) r = record { items = i ∷ r.items; sound = r.sound }
+with_entry None r = listed false
 
 -- at most n entries
 unfoldable pub listing_by : ℕ → List ℕ → ℕ → Listing

@@ -2,10 +2,9 @@
 -- the inverse of `text_of`.
 use Rattle.std.specs.Prelude.{ℕ, ◌+◌, ◌<◌, ◌≤◌, ◌≡◌, List, [], ◌∷◌, ◌++◌, eqb, length, drop}
 use Rattle.choice.specs.Pick.{pick}
-use Rattle.trace.specs.Contents.{contents_of}
+use Rattle.trace.specs.Contents.{passed, malformed_at, contents_of}
 use Rattle.trace.specs.Text.{InRange, AllInRange, line_of, text_of, first_line}
 use Rattle.trace.specs.declared.item.Item.{Item}
-use Rattle.trace.specs.declared.text.Check.TheVariants.{WellFormed, Malformed}
 
 -- the line of an item in range stands in the text from `at` up to `next`
 pub record IsLine (text : List ℕ) (at : ℕ) (i : Item) (next : ℕ) : Type 0 where
@@ -39,7 +38,7 @@ feeds_in (b ∷ s) = pick (eqb b 10) (1 + feeds_in s) (feeds_in s)
 -- a text is read as well-formed exactly if it is the text of some items in range, and then those are its items, and no
 -- others; else it is read as malformed exactly at the first line that is
 pub record Reads (text : List ℕ) : Type 0 where
-  pub well_formed : (contents_of text).check ≡ WellFormed → IsText text (contents_of text).items
-  pub found : (is : List Item) → IsText text is → ((contents_of text).check ≡ WellFormed) × ((contents_of text).items ≡ is)
-  pub malformed : (line : ℕ) → (contents_of text).check ≡ Malformed line → MalformedAt text line
-  pub refused : (line : ℕ) → MalformedAt text line → (contents_of text).check ≡ Malformed line
+  pub well_formed : (contents_of text).check ≡ passed → IsText text (contents_of text).items
+  pub found : (is : List Item) → IsText text is → ((contents_of text).check ≡ passed) × ((contents_of text).items ≡ is)
+  pub malformed : (line : ℕ) → (contents_of text).check ≡ malformed_at line → MalformedAt text line
+  pub refused : (line : ℕ) → MalformedAt text line → (contents_of text).check ≡ malformed_at line

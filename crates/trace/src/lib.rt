@@ -2,21 +2,22 @@
 // a list of items; shrunk. It knows no device.
 #![tactic(auto)]
 
-mod filled;
+mod gauge;
 mod item;
 mod line;
 mod listing;
-mod putting;
+mod page;
 mod reader;
+mod sending;
 mod shrinking;
+mod sink;
 mod text;
 mod turn;
 mod writing;
 
-pub use filled::Filled;
 pub use item::Item;
-pub use line::Line;
-pub use reader::{Reader, moved, new, next, read_line};
+pub use line::{Line, NoItem};
+pub use reader::Reader;
 pub use shrinking::shrink;
-pub use text::{Check, check_text};
+pub use text::{FIRST_ITEM, Malformed, check_text};
 pub use writing::write;

@@ -1,10 +1,12 @@
-// A reader that carries a text and its place in it (document 01, 'Forms'). Its functions are thin, over `line_at`: a
-// struct that holds a reference once had to be proved by hand. `read_line` has plain arguments, and serves every other
-// caller.
+// A reader carries a text and its place in it, and gives the text's lines one after the other.
 ghost use Rattle.std.specs.Prelude.{◌≡◌};
+ghost use Rattle.std.specs.Iterator.{YieldsFirst, item_count};
 ghost use Rattle.trace.specs.Line.{line_at};
+ghost use Rattle.trace.specs.Lines.{lines_from};
 
-use crate::line::{Line, line_at};
+use crate::item::Item;
+use crate::line::{Line, NoItem, line_at};
+use crate::text::FIRST_LINE;
 
 #[derive(Clone, Copy)]
 pub struct Reader<'a> {
@@ -12,30 +14,57 @@ pub struct Reader<'a> {
     pub at: usize,
 }
 
-// A reader at the text's start.
-pub fn new<'a>(text: &'a [u8]) -> Reader<'a>
-    ensures { (result.text ≡ text.entry) × (result.at ≡ 0) }
-{
-    Reader { text, at: 0 }
+impl<'a> Reader<'a> {
+    // A reader at the text's start.
+    pub fn new(text: &'a [u8]) -> Reader<'a>
+        ensures { (result.text ≡ text.entry) × (result.at ≡ 0) }
+    {
+        Reader { text, at: 0 }
+    }
+
+    // A reader past the text's fixed first line.
+    pub fn past_first(text: &'a [u8]) -> Reader<'a>
+        ensures { (result.text ≡ text.entry) × (result.at ≡ 8) }
+    {
+        Reader::new(text).moved(FIRST_LINE.len())
+    }
+
+    // The reader at another place.
+    pub fn moved(self, at: usize) -> Reader<'a>
+        ensures { (result.text ≡ self.entry.text) × (result.at ≡ at) }
+    {
+        Reader {
+            text: self.text,
+            at,
+        }
+    }
+
+    // The line at the reader's place.
+    pub fn line(self) -> Option<Result<Line, NoItem>>
+        ensures { result ≡ line_at self.entry.text.now self.entry.at }
+    {
+        line_at(self.text, self.at)
+    }
 }
 
-// The reader at another place.
-pub fn moved<'a>(r: Reader<'a>, at: usize) -> Reader<'a>
-    ensures { (result.text ≡ r.entry.text) × (result.at ≡ at) }
-{
-    Reader { text: r.text, at }
-}
+// What the lines hold from the reader's place on; a malformed line is the last.
+impl<'a> Iterator for Reader<'a> {
+    type Item = Result<Item, NoItem>;
 
-// The line at the reader's place.
-pub fn next<'a>(r: Reader<'a>) -> Line
-    ensures { result ≡ line_at r.entry.text.now r.entry.at }
-{
-    line_at(r.text, r.at)
-}
+    ghost next_gives = { YieldsFirst (λ r. lines_from r.text.now r.at) };
 
-// The line at a place of a text.
-pub fn read_line(text: &[u8], at: usize) -> Line
-    ensures { result ≡ line_at text.now at }
-{
-    next(moved(new(text), at))
+    ghost remaining = { item_count (λ r. lines_from r.text.now r.at) };
+
+    fn next(&mut self) -> Option<Result<Item, NoItem>> {
+        match self.line()? {
+            Ok(line) => {
+                self.at = line.next;
+                Some(Ok(line.item))
+            }
+            Err(e) => {
+                self.at = self.text.len();
+                Some(Err(e))
+            }
+        }
+    }
 }

@@ -1,50 +1,48 @@
 // A whole text: its first line, and its first malformed line.
-ghost use Rattle.std.specs.Prelude.{◌≡◌};
+ghost use Rattle.std.specs.Prelude.{◌≡◌, position, is_err};
 ghost use Rattle.trace.specs.Text.{first_line};
+ghost use Rattle.trace.specs.Lines.{lines_from};
 ghost use Rattle.trace.specs.Contents.{starts_with, contents_of};
 
-use crate::line::Line;
-use crate::reader::read_line;
+use crate::reader::Reader;
 
+// The fixed first line of every text.
+pub(crate) const FIRST_LINE: [u8; 8] = *b"chime\t1\n";
+
+// The line in which the first item stands, from 1.
+pub const FIRST_ITEM: usize = 2;
+
+// The first malformed line, from 1.
 #[derive(Clone, Copy)]
-pub enum Check {
-    WellFormed,
-    // The first malformed line, from 1.
-    Malformed(usize),
+pub struct Malformed {
+    pub line: usize,
 }
 
 // Whether the text begins with the fixed first line.
 fn begins(text: &[u8]) -> bool
     ensures { result ≡ starts_with first_line text.now }
 {
-    let head = b"chime\t1\n";
-    if text.len() < 8 {
-        return false;
-    }
-    check::same(&text[..8], head)
+    text.starts_with(&FIRST_LINE)
 }
 
-pub fn check_text(text: &[u8]) -> Check
+// How many lines stand before the first malformed one, behind the first line.
+fn lines_before(text: &[u8]) -> Option<usize>
+    ensures { result ≡ position is_err (lines_from text.now 8) }
+{
+    let mut lines = Reader::past_first(text);
+    lines.position(|line| line.is_err())
+}
+
+pub fn check_text(text: &[u8]) -> Result<(), Malformed>
     ensures { result ≡ (contents_of text.now).check }
 {
     if !begins(text) {
-        return Check::Malformed(1);
+        return Err(Malformed { line: 1 });
     }
-    let mut at: usize = 8;
-    let mut line: usize = 2;
-    while at < text.len() {
-        match read_line(text, at) {
-            Line::Found(_, next) => {
-                at = next;
-                line += 1;
-            }
-            Line::Malformed => {
-                return Check::Malformed(line);
-            }
-            Line::End => {
-                return Check::WellFormed;
-            }
-        }
+    match lines_before(text) {
+        Some(n) => Err(Malformed {
+            line: n + FIRST_ITEM,
+        }),
+        None => Ok(()),
     }
-    Check::WellFormed
 }

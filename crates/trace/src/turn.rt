@@ -1,140 +1,89 @@
 // One item of the shrink's pass. The clocks that are held back are a line's at most, 4,294,967,295: where more come, a
 // full line goes out, so that the sum of many lines is never formed.
-ghost use Rattle.std.specs.Prelude.{◌≡◌, ◌≤◌, length};
+ghost use Rattle.std.specs.Prelude.{◌≡◌};
 ghost use Rattle.trace.specs.Text.{lines_of};
-ghost use Rattle.trace.specs.Putting.{Room, Put};
-ghost use Rattle.trace.specs.Shrinking.{rest_of};
-ghost use Rattle.trace.specs.Turning.{added_turn, call_turn, turn_of, call_of, is_call, out_at};
+ghost use Rattle.trace.specs.Sinks.{Sent};
+ghost use Rattle.trace.specs.Turning.{run_items, added_turn, turn_of, out_at};
 
 use crate::item::Item;
-use crate::putting::{line_length, put_line};
+use crate::sending::send_line;
+use crate::sink::Sink;
+use answer::Refusal;
 
-const MOST: u32 = 4294967295;
-
-// The clocks that go out before an item, and the run that is held back after it.
-#[derive(Clone, Copy)]
-pub struct Turn {
-    pub out: u32,
+// Clocks at equal levels, a line's at most; none at first. No Option: 0 clocks are no run, as `turn_of` has it.
+#[derive(Clone, Copy, Default)]
+pub(crate) struct Run {
     pub levels: u8,
     pub clocks: u32,
 }
 
-// So many more clocks with the levels of those that are held back.
-fn added(levels: u8, clocks: u32, more: u32) -> Turn
-    ensures { result ≡ added_turn levels clocks more }
-{
-    let room = MOST - clocks;
-    if room < more {
-        Turn {
-            out: MOST,
-            levels,
-            clocks: more - room,
-        }
-    } else {
-        Turn {
-            out: 0,
-            levels,
-            clocks: clocks + more,
-        }
-    }
+// The run that goes out before an item, and the one that is held back after it.
+#[derive(Clone, Copy)]
+pub(crate) struct Turn {
+    pub out: Run,
+    pub held: Run,
 }
 
-// A call: what is held back goes out before it.
-fn at_call(levels: u8, held: u32) -> Turn
-    ensures { result ≡ call_turn levels held }
-{
-    Turn {
-        out: held,
-        levels,
-        clocks: 0,
+impl Run {
+    // So many more clocks with its levels.
+    #[tactic(auto, unfolding(crate::specs::Turning::added_turn))]
+    fn added(self, more: u32) -> Turn
+        ensures { result ≡ added_turn self more }
+    {
+        match self.clocks.checked_add(more) {
+            Some(clocks) => Turn {
+                out: Run { clocks: 0, ..self },
+                held: Run { clocks, ..self },
+            },
+            None => Turn {
+                out: Run {
+                    clocks: u32::MAX,
+                    ..self
+                },
+                held: Run {
+                    clocks: more - (u32::MAX - self.clocks),
+                    ..self
+                },
+            },
+        }
     }
-}
 
-#[tactic(auto, unfolding(crate::specs::Turning::turn_of))]
-pub(crate) fn turned(levels: u8, clocks: u32, i: Item) -> Turn
-    ensures { result ≡ turn_of levels clocks i }
-{
-    match i {
-        Item::Write(_, _, _) => at_call(levels, clocks),
-        Item::Read(_, _, _) => at_call(levels, clocks),
-        Item::Vector(_, _) => at_call(levels, clocks),
-        Item::Clocks(l, c) => {
-            if levels == l {
-                added(levels, clocks, c)
-            } else {
-                Turn {
-                    out: clocks,
-                    levels: l,
-                    clocks: c,
-                }
+    // An item after the run that is held back. A call lets it out, as other levels do.
+    #[tactic(auto, unfolding(crate::specs::Turning::turn_of))]
+    pub(crate) fn turned(self, i: Item) -> Turn
+        ensures { result ≡ turn_of self i }
+    {
+        match i {
+            Item::Clocks(levels, clocks) if levels == self.levels => self.added(clocks),
+            Item::Clocks(levels, clocks) => {
+                let held = Run { levels, clocks };
+                Turn { out: self, held }
             }
+            _ => Turn {
+                out: self,
+                held: Run { clocks: 0, ..self },
+            },
         }
     }
 }
 
-fn is_call(i: Item) -> bool
-    ensures { result ≡ is_call i }
+// The line of a run, if it has clocks.
+pub(crate) fn send_run<S: Sink>(sink: &mut S, run: Run) -> Result<(), Refusal>
+    ensures { Sent S.fits S.taken sink.old (lines_of (run_items run)) result sink.new }
 {
+    if run.clocks == 0 {
+        return Ok(());
+    }
+    send_line(sink, Item::Clocks(run.levels, run.clocks))
+}
+
+// The lines that go out at an item: a run before it, and the item itself if it is a call.
+pub(crate) fn send_out<S: Sink>(sink: &mut S, out: Run, i: Item) -> Result<(), Refusal>
+    ensures { Sent S.fits S.taken sink.old (lines_of (out_at out i)) result sink.new }
+{
+    send_run(sink, out)?;
     match i {
-        Item::Write(_, _, _) => true,
-        Item::Read(_, _, _) => true,
-        Item::Vector(_, _) => true,
-        Item::Clocks(_, _) => false,
+        Item::Clocks(..) => Ok(()),
+        _ => send_line(sink, i),
     }
-}
-
-pub(crate) fn rest_length(levels: u8, clocks: u32) -> usize
-    ensures value { result ≡ length (lines_of (rest_of levels clocks)) }
-    ensures upper_bound { result ≤ 35 }
-{
-    if clocks == 0 {
-        0
-    } else {
-        line_length(Item::Clocks(levels, clocks))
-    }
-}
-
-fn call_length(i: Item) -> usize
-    ensures value { result ≡ length (lines_of (call_of i)) }
-    ensures upper_bound { result ≤ 35 }
-{
-    if is_call(i) { line_length(i) } else { 0 }
-}
-
-// How long the lines are that go out at an item.
-pub(crate) fn out_length(levels: u8, out: u32, i: Item) -> usize
-    ensures { result ≡ length (lines_of (out_at levels out i)) }
-{
-    rest_length(levels, out) + call_length(i)
-}
-
-pub(crate) fn put_rest(buffer: &mut [u8], at: usize, levels: u8, clocks: u32) -> usize
-    requires { Room buffer.old at (lines_of (rest_of levels clocks)) }
-    ensures { Put buffer.old buffer.new at result (lines_of (rest_of levels clocks)) }
-{
-    if clocks == 0 {
-        at
-    } else {
-        put_line(buffer, at, Item::Clocks(levels, clocks))
-    }
-}
-
-fn put_call(buffer: &mut [u8], at: usize, i: Item) -> usize
-    requires { Room buffer.old at (lines_of (call_of i)) }
-    ensures { Put buffer.old buffer.new at result (lines_of (call_of i)) }
-{
-    if is_call(i) {
-        put_line(buffer, at, i)
-    } else {
-        at
-    }
-}
-
-// Puts the lines that go out at an item, and answers the place past them.
-pub(crate) fn put_out(buffer: &mut [u8], at: usize, levels: u8, out: u32, i: Item) -> usize
-    requires { Room buffer.old at (lines_of (out_at levels out i)) }
-    ensures { Put buffer.old buffer.new at result (lines_of (out_at levels out i)) }
-{
-    let then = put_rest(buffer, at, levels, out);
-    put_call(buffer, then, i)
 }

@@ -1,76 +1,44 @@
 // The text of a list of items (document 02, M-109): measured, then written into a lent buffer.
-ghost use Rattle.std.specs.Prelude.{◌≡◌, leb, length};
-ghost use Rattle.trace.specs.Text.{lines_of, text_of};
+ghost use Rattle.std.specs.Prelude.{◌≡◌, ◌≤◌, IfOk, length};
+ghost use Rattle.trace.specs.Text.{text_of};
 ghost use Rattle.trace.specs.Listing.{listing_of};
-ghost use Rattle.trace.specs.Putting.{Room, Put};
+ghost use Rattle.trace.specs.Sinks.{Sent};
 ghost use Rattle.trace.specs.Filling.{written_by, buffer_written};
 
-use crate::filled::Filled;
-use crate::listing::{Entry, check_list, entry_at};
-use crate::putting::{line_length, put_first, put_line};
+use crate::gauge::Gauge;
+use crate::listing::{check_list, entry_of};
+use crate::page::Page;
+use crate::sending::{send_first, send_line};
+use crate::sink::Sink;
 use answer::Refusal;
 
-// Whether the text of the list's items has room in so many bytes. Line by line from what is left, so that no sum can be
-// too large.
-fn text_fits(list: &[u8], room: usize) -> bool
-    ensures { result ≡ leb (length (text_of (listing_of list.now).items)) room }
+// The text of the list's items, up to an entry that is none.
+fn send_list<S: Sink>(list: &[u8], sink: &mut S) -> Result<(), Refusal>
+    ensures { Sent S.fits S.taken sink.old (text_of (listing_of list.now).items) result sink.new }
 {
-    if room < 8 {
-        return false;
+    send_first(sink)?;
+    for entry in list.chunks(8) {
+        let Some(i) = entry_of(entry) else {
+            break;
+        };
+        send_line(sink, i)?;
     }
-    let mut left = room - 8;
-    let mut at: usize = 0;
-    while at < list.len() {
-        match entry_at(list, at) {
-            Entry::Held(i) => {
-                let n = line_length(i);
-                if left < n {
-                    return false;
-                }
-                left -= n;
-                at += 8;
-            }
-            Entry::Outside => {
-                at = list.len();
-            }
-        }
-    }
-    true
-}
-
-// Puts the lines of the list's items from `start` on, and answers the place past them.
-fn put_lines(list: &[u8], buffer: &mut [u8], start: usize) -> usize
-    requires { Room buffer.old start (lines_of (listing_of list.now).items) }
-    ensures { Put buffer.old buffer.new start result (lines_of (listing_of list.now).items) }
-{
-    let mut place = start;
-    let mut at: usize = 0;
-    while at < list.len() {
-        match entry_at(list, at) {
-            Entry::Held(i) => {
-                place = put_line(buffer, place, i);
-                at += 8;
-            }
-            Entry::Outside => {
-                at = list.len();
-            }
-        }
-    }
-    place
+    Ok(())
 }
 
 // Writes the text of a list of items into the buffer, or leaves it as it is.
-pub fn write(list: &[u8], buffer: &mut [u8]) -> Filled
+pub fn write(list: &[u8], buffer: &mut [u8]) -> Result<usize, Refusal>
     ensures value { result ≡ written_by list.now (length buffer.old) }
     ensures buffer_after { buffer.new ≡ buffer_written list.now buffer.old }
+    ensures within { IfOk result (λ n. n ≤ length buffer.old) }
 {
     if !check_list(list) {
-        return Filled::Refused(Refusal::Malformed);
+        return Err(Refusal::Malformed);
     }
-    let room = buffer.len();
-    if !text_fits(list, room) {
-        return Filled::Refused(Refusal::Room);
-    }
-    let start = put_first(buffer);
-    Filled::Text(put_lines(list, buffer, start))
+    // As in `shrink`: no closure takes both kinds of sink, and a trait of its own is longer than these four lines.
+    let left = buffer.len();
+    send_list(list, &mut Gauge { left })?;
+    let mut page = Page { buffer, at: 0 };
+    send_list(list, &mut page)?;
+    Ok(page.at)
 }

@@ -2,16 +2,15 @@ use Rattle.std.proofs.Common.{ap, ◌∙◌}
 use Rattle.trace.specs.Line.{pair_by, pair_from, pair_at}
 use Rattle.trace.proofs.line.pair_at.Goals as goal
 
-pub returns-in-Number-field_at : goal.returns-in-Number-field_at
+pub returns-in_err-x : goal.returns-in_err-x
 unfolding pair_at
-returns-in-Number-field_at c =
-    ap (pair_by _) c.in-Number-field_at.ensures ∙ ap (pair_from _ _) c.in-Number.ensures
+returns-in_err-x c = c.from_residual.ensures ∙ ap (pair_from _ _) c.in_err-x.ensures
 
-pub returns-in-Malformed-field_at : goal.returns-in-Malformed-field_at
+pub returns-in_err-y : goal.returns-in_err-y
 unfolding pair_at
-returns-in-Malformed-field_at c =
-    ap (pair_by _) c.in-Malformed-field_at.ensures ∙ ap (pair_from _ _) c.in-Number.ensures
+returns-in_err-y c =
+    c.from_residual-in_err-y.ensures ∙ ap (pair_by _) c.in_err-y.ensures ∙ ap (pair_from _ _) c.in_ok-x.ensures
 
-pub returns-in-Malformed : goal.returns-in-Malformed
+pub returns : goal.returns
 unfolding pair_at
-returns-in-Malformed c = ap (pair_from _ _) c.in-Malformed.ensures
+returns c = ap (pair_by _) c.in_ok-y.ensures ∙ ap (pair_from _ _) c.in_ok-x.ensures

@@ -5,25 +5,24 @@ use Rattle.trace.specs.Line.{triple_by, triple_from, triple_at}
 use Rattle.trace.proofs.line.triple_at.Goals as goal
 
 pub overflow_cast-result : goal.overflow_cast-result
-overflow_cast-result c = omega (arith, (field_is c.args.text.now _ _ _ _ _ (sym c.in-Number.ensures)).low)
+overflow_cast-result c = omega (arith, (field_is c.args.text.now _ _ _ _ _ (sym c.in_ok-x.ensures)).low)
 
-pub overflow_cast-result-in-Numbers : goal.overflow_cast-result-in-Numbers
-overflow_cast-result-in-Numbers c =
-    omega (arith, (pair_is c.args.text.now _ _ _ _ _ _ (sym c.in-Numbers.ensures)).low₁)
+pub overflow_cast-result-2 : goal.overflow_cast-result-2
+overflow_cast-result-2 c = omega (arith, (pair_is c.args.text.now _ _ _ _ _ _ (sym c.in_ok-others.ensures)).low₁)
 
-pub overflow_cast-result-in-Numbers-2 : goal.overflow_cast-result-in-Numbers-2
-overflow_cast-result-in-Numbers-2 c =
-    omega (arith, (pair_is c.args.text.now _ _ _ _ _ _ (sym c.in-Numbers.ensures)).low₂)
+pub overflow_cast-result-3 : goal.overflow_cast-result-3
+overflow_cast-result-3 c = omega (arith, (pair_is c.args.text.now _ _ _ _ _ _ (sym c.in_ok-others.ensures)).low₂)
 
-pub returns-in-Numbers : goal.returns-in-Numbers
+pub returns-in_err-x : goal.returns-in_err-x
 unfolding triple_at
-returns-in-Numbers c = ap (triple_by _) c.in-Numbers.ensures ∙ ap (triple_from _) c.in-Number.ensures
+returns-in_err-x c = c.from_residual.ensures ∙ ap (triple_from _) c.in_err-x.ensures
 
-pub returns-in-Malformed-pair_at : goal.returns-in-Malformed-pair_at
+pub returns-in_err-others : goal.returns-in_err-others
 unfolding triple_at
-returns-in-Malformed-pair_at c =
-    ap (triple_by _) c.in-Malformed-pair_at.ensures ∙ ap (triple_from _) c.in-Number.ensures
+returns-in_err-others c =
+    c.from_residual-in_err-others.ensures ∙ ap (triple_by _) c.in_err-others.ensures
+    ∙ ap (triple_from _) c.in_ok-x.ensures
 
-pub returns-in-Malformed : goal.returns-in-Malformed
+pub returns : goal.returns
 unfolding triple_at
-returns-in-Malformed c = ap (triple_from _) c.in-Malformed.ensures
+returns c = ap (triple_by _) c.in_ok-others.ensures ∙ ap (triple_from _) c.in_ok-x.ensures

@@ -1,14 +1,11 @@
-use Rattle.std.proofs.Common.{sym, ◌∙◌}
-use Rattle.trace.proofs.PassLaws.{listed_next, listed-out, listed-end}
+use Rattle.std.proofs.Common.{rules, tests, ap, ◌∙◌}
+use Rattle.trace.specs.Listing.{listing_of}
+use Rattle.trace.proofs.ChunkLaws.{all-sound}
 use Rattle.trace.proofs.listing.check_list.Goals as goal
 
-pub loop-at-preserved : goal.loop-at-preserved
-loop-at-preserved c =
-    sym (listed_next c.args.list.now _ _ c.loop-at-test.true c.in-Held.ensures).1 ∙ c.loop-at.invariant
-
-pub returns-in-Outside : goal.returns-in-Outside
-returns-in-Outside c =
-    sym (listed-out c.args.list.now _ c.loop-at-test.true c.in-Outside.ensures).1 ∙ c.loop-at.invariant
-
 pub returns : goal.returns
-returns c = sym (listed-end c.args.list.now _ c.loop-at-test.false).1 ∙ c.loop-at.invariant
+returns c =
+    let d = c.all.ensures.ran in
+    all-sound c.all.result d.0 d.1 c.chunks.result c.all.new.self _ d.2 c.chunks.ensures.size d.3 d.4 d.5
+    (λ p x b q h. search (rules, tests))
+    ∙ ap (λ l. (listing_of l).sound) c.chunks.ensures.rest

@@ -1,8 +1,7 @@
-use Rattle.trace.proofs.ContentsLaws.{begins-short, begins-same}
+use Rattle.std.proofs.Common.{◌∙◌}
+use Rattle.trace.specs.Text.{first_line}
+use Rattle.trace.proofs.ContentsLaws.{begins-same}
 use Rattle.trace.proofs.text.begins.Goals as goal
 
-pub returns-then-text-lt8 : goal.returns-then-text-lt8
-returns-then-text-lt8 c = begins-short c.args.text.now c.if-text-lt8.true
-
 pub returns : goal.returns
-returns c = begins-same c.args.text.now _ c.same.ensures.0 c.same.ensures.1
+returns c = c.starts_with.ensures.value ∙ begins-same first_line c.args.text.now

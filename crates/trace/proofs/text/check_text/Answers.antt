@@ -1,22 +1,20 @@
-use Rattle.std.proofs.Common.{arith, sym, ◌∙◌}
-use Rattle.trace.proofs.ContentsLaws.{line_after, checking-start, checking-on}
-use Rattle.trace.proofs.ContentsLaws.{checked-malformed, checked-end, checked-over}
+use Rattle.std.proofs.Common.{arith, ap, sym, ◌∙◌}
+use Rattle.trace.specs.Lines.{lines_from}
+use Rattle.trace.proofs.ContentsLaws.{counted, checked, fewer, behind_first}
+use Rattle.trace.proofs.LinesLaws.{lines-most}
 use Rattle.trace.proofs.text.check_text.Goals as goal
 
-pub loop-at-init : goal.loop-at-init
-loop-at-init c = checking-start c.args.text.now (sym c.begins.ensures ∙ c.if-not-begins.false)
+pub overflow_add-result : goal.overflow_add-result
+overflow_add-result c =
+    let lines = lines_from c.args.text.now 8 in
+    omega (arith, fewer c.in-Some.n lines c.in-Some.ensures, lines-most c.args.text.now 8)
 
-pub loop-at-smaller : goal.loop-at-smaller
-loop-at-smaller c = omega (arith, line_after c.args.text.now _ _ _ (sym c.in-Found.ensures))
+pub returns-in-Some : goal.returns-in-Some
+returns-in-Some c =
+    ap (counted 2) c.in-Some.ensures ∙ sym (checked 2 (lines_from c.args.text.now 8))
+    ∙ behind_first c.args.text.now (sym c.begins.ensures ∙ c.if-not-begins.false)
 
-pub loop-at-preserved : goal.loop-at-preserved
-loop-at-preserved c = checking-on c.args.text.now _ _ c.loop-at.invariant _ _ (sym c.in-Found.ensures)
-
-pub returns-in-Malformed : goal.returns-in-Malformed
-returns-in-Malformed c = checked-malformed c.args.text.now _ _ c.loop-at.invariant (sym c.in-Malformed.ensures)
-
-pub returns-in-End : goal.returns-in-End
-returns-in-End c = checked-end c.args.text.now _ _ c.loop-at.invariant (sym c.in-End.ensures)
-
-pub returns : goal.returns
-returns c = checked-over c.args.text.now _ _ c.loop-at.invariant c.loop-at-test.false
+pub returns-in-None : goal.returns-in-None
+returns-in-None c =
+    ap (counted 2) c.in-None.ensures ∙ sym (checked 2 (lines_from c.args.text.now 8))
+    ∙ behind_first c.args.text.now (sym c.begins.ensures ∙ c.if-not-begins.false)
