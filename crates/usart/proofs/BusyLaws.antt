@@ -4,6 +4,7 @@ use mathlib.Core.Path.{◌≡◌, refl}
 use mathlib.Core.Bool.{Bool, true, false}
 use Prim.Native.Nat.{ℕ}
 use lib.Dec.{eqb}
+use Rattle.std.proofs.Common.{Result, Some}
 use Rattle.choice.specs.Bit.{is_set}
 use Rattle.choice.specs.Pick.{pick}
 use Rattle.choice.proofs.Picks.{pick_ind}
@@ -15,12 +16,11 @@ use Rattle.usart.specs.Write.{formatted_of, txc_cleared, timed_of, transmitted_o
 use Rattle.usart.specs.Event.{settled, next_of, write, read, vector}
 use Rattle.usart.specs.declared.baud.Baud.{Baud}
 use Rattle.usart.specs.declared.sender.Transmission.{Transmission}
-use Rattle.usart.specs.declared.sender.ShiftRegister.TheVariants.{Sending}
 use Rattle.usart.specs.declared.unit.Usart.{Usart}
 use Rattle.usart.specs.declared.write.Register.{Register}
-use Rattle.usart.specs.declared.write.Written.{Written}
 use Rattle.usart.proofs.ReadLaws.{each_read}
 use Rattle.usart.proofs.WriteLaws.{Before, in_a, in_b, in_c, Writes, each_write}
+use Rattle.answer.specs.declared.Refusal.{Refusal}
 
 pub record Kept (u v : Usart) : Type 0 where
   pub baud : v.baud ≡ u.baud
@@ -30,14 +30,14 @@ pub record Kept (u v : Usart) : Type 0 where
 same : (u : Usart) → Kept u u
 same u = record { baud = refl; format = refl; shifter = refl }
 
-abbrev KeptBy : Usart → Written → Type 0
+abbrev KeptBy : Usart → Result Usart Refusal → Type 0
 KeptBy u w = Kept u (settled u w)
 
 pub either : (t : Bool) → pick t true true ≡ true
 either true = refl
 either false = refl
 
-module _ (u : Usart) (t : Transmission) (e : u.sender.shifter ≡ Sending t) where
+module _ (u : Usart) (t : Transmission) (e : u.sender.shifter ≡ Some t) where
   busy : is_busy u ≡ true
   unfolding is_busy
   busy = rw e (either (is_vacant u.sender.buffer))

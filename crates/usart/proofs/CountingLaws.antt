@@ -7,10 +7,15 @@ use Prim.Native.Nat.{ℕ, zero, suc, ◌+◌, ◌-◌, ◌*◌, ◌≤◌, ◌<�
 use native.Mathlib.Omega.{arith}
 use lib.Dec.{eqb, ltb}
 use borrow.Author.Tests.{eq-eqb, ne_eqb, lt-ltb, le-ltb, eqb-true, ltb-true, ltb-false}
+use Rattle.std.proofs.Common.{None, Option, Some}
+use Rattle.std.specs.Prelude.{cond}
+use Rattle.std.specs.Ordering.{is_lt, nat_cmp, ord_min}
+use Rattle.span.specs.declared.Span.{Span}
+use Rattle.span.specs.contracts.SpanOrd.TheImpl as of_span
 use Rattle.choice.proofs.Picks.{pick_ind, split}
 use Rattle.frame.specs.Format.{samples, first_vote}
 use Rattle.frame.specs.declared.format.Format.{Format}
-use Rattle.frame.proofs.FormatLaws.{samples-half, samples-range}
+use Rattle.frame.proofs.FormatLaws.{samples-half}
 use Rattle.usart.specs.Baud.{ticks, left_of, ticks_in}
 use Rattle.usart.specs.Sender.{is_resting, stepped_of, sender_of, txd_of}
 use Rattle.usart.specs.Sampler.{still, cast_of, voted_of, sampled_of, sampler_of}
@@ -20,17 +25,14 @@ use Rattle.usart.specs.Counting.{least, sender_quiet, bit_quiet, sampler_quiet, 
 use Rattle.usart.specs.Counting.{counted_shifter, counted_sender, counted_sampler, counted_receiver, counted_baud}
 use Rattle.usart.specs.Counting.{counted_of}
 use Rattle.usart.specs.declared.baud.Baud.{Baud}
-use Rattle.usart.specs.declared.sender.Buffer.{Buffer}
-use Rattle.usart.specs.declared.sender.Buffer.TheVariants.{Vacant, Full}
 use Rattle.usart.specs.declared.sender.Transmission.{Transmission}
-use Rattle.usart.specs.declared.sender.ShiftRegister.{ShiftRegister}
-use Rattle.usart.specs.declared.sender.ShiftRegister.TheVariants.{Resting, Sending}
 use Rattle.usart.specs.declared.sender.Sender.{Sender}
-use Rattle.usart.specs.declared.sampler.Reception.{Reception}
 use Rattle.usart.specs.declared.sampler.Sampler.{Sampler}
 use Rattle.usart.specs.declared.sampler.Sampler.TheVariants.{Idle, Receiving}
 use Rattle.usart.specs.declared.sampler.Sampled.{Sampled}
 use Rattle.usart.specs.declared.receiver.Receiver.{Receiver}
+use Rattle.usart.specs.declared.tick.Ticks.{Ticks}
+use Rattle.usart.specs.contracts.tick.TicksOrd.TheImpl as of_ticks
 use Rattle.usart.specs.declared.unit.Usart.{Usart}
 use Rattle.usart.proofs.ClockLaws.{with, same_parts}
 
@@ -40,6 +42,22 @@ least-le n a b =
     pick_ind (λ (m : ℕ). n ≤ m → (n ≤ a) × (n ≤ b)) (ltb a b) a b
     (λ e h. (h, omega (arith, ltb-true a b e)))
     (λ e h. (omega (arith, ltb-false a b e), h))
+
+-- the lesser of two counts, as the code takes it
+min-least : {X : Type 0} (count : X → ℕ) (a b : X) → count (cond (is_lt (nat_cmp (count b) (count a))) b a) ≡ least (count a) (count b)
+unfolding least
+min-least count a b =
+    split (ltb (count b) (count a))
+    (λ e. rw (e, le-ltb (count a) (count b) (omega (arith, ltb-true (count b) (count a) e))))
+    (λ e.
+    let rest : count a ≡ least (count a) (count b) = pick_ind (λ (m : ℕ). count a ≡ m) (ltb (count a) (count b)) _ _ (λ _. refl) (λ q. omega (arith, ltb-false (count b) (count a) e, ltb-false (count a) (count b) q)) in
+    split (eqb (count b) (count a)) (λ q. rw (e, q) rest) (λ q. rw (e, q) rest))
+
+pub least-ticks : {t : Ticks} (a b : Ticks) → t ≡ ord_min of_ticks.cmp-value.it a b → t.0 ≡ least a.0 b.0
+least-ticks a b e = ap (λ (x : Ticks). x.0) e ∙ min-least (λ (x : Ticks). x.0) a b
+
+pub least-span : {t : Span} (a b : Span) → t ≡ ord_min of_span.cmp-value.it a b → t.0 ≡ least a.0 b.0
+least-span a b e = ap (λ (x : Span). x.0) e ∙ min-least (λ (x : Span). x.0) a b
 
 le-least : (n a b : ℕ) → n ≤ a → n ≤ b → n ≤ least a b
 unfolding least
@@ -56,26 +74,20 @@ pub every-tick : (ubrr : ℕ) {n k : ℕ} → ubrr ≡ 0 → n ≡ k * (ubrr + 1
 every-tick ubrr z e = e ∙ rw z (omega arith)
 
 module _ (f : Format) where
-  -- the sender's count has room for the ticks that it only counts
-  pub sending-fits : (b : Buffer) (s : ShiftRegister) (t : Transmission) (n : ℕ) → s ≡ Sending t → n ≤ sender_quiet f b s → n ≤ 255 - t.sample.0
-  unfolding sender_quiet
-  sending-fits b s t n e h =
-      let g : n ≤ sender_quiet f b (Sending t) = rw e at h in omega (arith, samples-range f)
-
   pub sender-clock : (s : Sender) → 1 ≤ sender_quiet f s.buffer s.shifter → sender_of f s ≡ counted_sender s 1
   unfolding sender_quiet stepped_of
   sender-clock s h = by s.buffer s.shifter s.txc h
     where
-      by : (b : Buffer) (x : ShiftRegister) (c : Bool) → 1 ≤ sender_quiet f b x
+      by : (b : Option ℕ) (x : Option Transmission) (c : Bool) → 1 ≤ sender_quiet f b x
           → sender_of f (record { buffer = b; shifter = x; txc = c }) ≡ counted_sender (record { buffer = b; shifter = x; txc = c }) 1
-      by Vacant Resting c h = refl
-      by (Full d) Resting c h = absurd (omega arith)
-      by b (Sending t) c h = rw (lt-ltb t.sample.0 (samples f - 1) (omega arith))
+      by None None c h = refl
+      by (Some d) None c h = absurd (omega arith)
+      by b (Some t) c h = rw (lt-ltb t.sample.0 (samples f - 1) (omega arith))
 
-  pub sender-after : (b : Buffer) (s : ShiftRegister) (k : ℕ) → suc k ≤ sender_quiet f b s → k ≤ sender_quiet f b (counted_shifter s 1)
+  pub sender-after : (b : Option ℕ) (s : Option Transmission) (k : ℕ) → suc k ≤ sender_quiet f b s → k ≤ sender_quiet f b (counted_shifter s 1)
   unfolding sender_quiet
-  sender-after b Resting k h = omega arith
-  sender-after b (Sending t) k h = omega arith
+  sender-after b None k h = omega arith
+  sender-after b (Some t) k h = omega arith
 
   -- k more samples of a bit with n taken: they end before its last, and none of them votes
   record Silent (n k : ℕ) : Type 0 where
@@ -100,11 +112,6 @@ module _ (f : Format) where
       (λ a. rw (le-ltb (n + 1) (first_vote f) (omega arith), le-ltb (n + 1) (first_vote f + 2) (omega arith)) (omega (arith, z.inner)))
       z.votes
 
-  pub receiving-fits : (s : Sampler) (r : Reception) (n : ℕ) → s ≡ Receiving r → n ≤ sampler_quiet f s → n ≤ 255 - r.sample.0
-  receiving-fits s r zero e h = omega arith
-  receiving-fits s r (suc k) e h =
-      omega (arith, (silent r.sample.0 k (rw e at h)).inner, samples-range f)
-
   sampler-clock : (s : Sampler) (l : Bool) → 1 ≤ sampler_quiet f s → sampler_of f s l ≡ still (counted_sampler s 1)
   unfolding sampler_of sampled_of voted_of cast_of
   sampler-clock (Idle last) l h = absurd (omega arith)
@@ -122,10 +129,6 @@ module _ (f : Format) where
   sampler-after : (s : Sampler) (k : ℕ) → suc k ≤ sampler_quiet f s → k ≤ sampler_quiet f (counted_sampler s 1)
   sampler-after (Idle last) k h = absurd (omega arith)
   sampler-after (Receiving r) k h = bit-after r.sample.0 k h
-
-  pub enabled-quiet : (rxen : Bool) (r : Receiver) (n : ℕ) → rxen ≡ true → n ≤ receiver_quiet rxen f r → n ≤ sampler_quiet f r.sampler
-  unfolding receiver_quiet
-  enabled-quiet rxen r n e h = rw e at h
 
   pub receiver-clock : (rxen : Bool) (r : Receiver) (l : Bool) → 1 ≤ receiver_quiet rxen f r → listened_of rxen f r l ≡ counted_receiver rxen r 1
   unfolding receiver_quiet listened_of counted_receiver
@@ -165,10 +168,10 @@ waiting u n e h = rw e at h
 pub least-low : (a b : ℕ) → least a b ≤ a
 least-low a b = (least-le (least a b) a b (omega arith)).0
 
-pub rest-stays : (s : Sender) (n : ℕ) → s.shifter ≡ Resting → s ≡ counted_sender s n
+pub rest-stays : (s : Sender) (n : ℕ) → s.shifter ≡ None → s ≡ counted_sender s n
 rest-stays s n e =
     let q : s.shifter ≡ counted_shifter s.shifter n = rw e in
-    ap (λ (x : ShiftRegister). record { buffer = s.buffer; shifter = x; txc = s.txc }) q
+    ap (λ (x : Option Transmission). record { buffer = s.buffer; shifter = x; txc = s.txc }) q
 
 -- the two forms of the unit after n of them
 abbrev ticked_by : Usart → ℕ → Usart
@@ -218,9 +221,9 @@ quiet-after u k h = split (ticks u.baud)
     (λ e. rw (counted-tick u 1 e) (ticked-after u k e (ticking u (suc k) e h)))
     (λ e. rw (counted-wait u 1 e) (waited-after u k (waiting u (suc k) e h)))
 
-pub shifter-none : (s : ShiftRegister) → counted_shifter s 0 ≡ s
-shifter-none Resting = refl
-shifter-none (Sending t) =
+pub shifter-none : (s : Option Transmission) → counted_shifter s 0 ≡ s
+shifter-none None = refl
+shifter-none (Some t) =
     let e : t.sample.0 + 0 ≡ t.sample.0 = omega arith in rw e
 
 sampler-none : (s : Sampler) → counted_sampler s 0 ≡ s
@@ -240,9 +243,9 @@ counted_none u = split (ticks u.baud)
     let none : u.baud.left.0 - 0 ≡ u.baud.left.0 = omega arith in
     rw (counted-wait u 0 e, none))
 
-pub shifter-more : (s : ShiftRegister) (k : ℕ) → counted_shifter (counted_shifter s 1) k ≡ counted_shifter s (suc k)
-shifter-more Resting k = refl
-shifter-more (Sending t) k =
+pub shifter-more : (s : Option Transmission) (k : ℕ) → counted_shifter (counted_shifter s 1) k ≡ counted_shifter s (suc k)
+shifter-more None k = refl
+shifter-more (Some t) k =
     let e : t.sample.0 + 1 + k ≡ t.sample.0 + suc k = omega arith in rw e
 
 sampler-more : (s : Sampler) (k : ℕ) → counted_sampler (counted_sampler s 1) k ≡ counted_sampler s (suc k)
@@ -270,17 +273,17 @@ counted-more u k h = split (ticks u.baud)
     (λ e.
     rw (counted-tick u 1 e, counted-tick u (suc k) e)
     (counted-tick (ticked_by u 1) k e
-    ∙ same_parts u refl (ap (λ (x : ShiftRegister). record { buffer = u.sender.buffer; shifter = x; txc = u.sender.txc }) (shifter-more u.sender.shifter k))
+    ∙ same_parts u refl (ap (λ (x : Option Transmission). record { buffer = u.sender.buffer; shifter = x; txc = u.sender.txc }) (shifter-more u.sender.shifter k))
     (receiver-more u.control.rxen u.receiver k)))
     (λ e. rw (counted-wait u 1 e, counted-wait u (suc k) e) (waited-more u k (waiting u (suc k) e h)))
 
-resting-counted : (s : ShiftRegister) (n : ℕ) → is_resting (counted_shifter s n) ≡ is_resting s
-resting-counted Resting n = refl
-resting-counted (Sending t) n = refl
+resting-counted : (s : Option Transmission) (n : ℕ) → is_resting (counted_shifter s n) ≡ is_resting s
+resting-counted None n = refl
+resting-counted (Some t) n = refl
 
-txd-counted : (f : Format) (s : ShiftRegister) (n : ℕ) → txd_of f (counted_shifter s n) ≡ txd_of f s
-txd-counted f Resting n = refl
-txd-counted f (Sending t) n = refl
+txd-counted : (f : Format) (s : Option Transmission) (n : ℕ) → txd_of f (counted_shifter s n) ≡ txd_of f s
+txd-counted f None n = refl
+txd-counted f (Some t) n = refl
 
 pub output-counted : (u : Usart) (n : ℕ) → output_of (counted_of u n) ≡ output_of u
 unfolding output_of is_driven

@@ -3,6 +3,7 @@
 use mathlib.Core.Path.{◌≡◌, refl}
 use mathlib.Core.Bool.{true, false}
 use Prim.Native.Nat.{ℕ}
+use Rattle.std.proofs.Common.{Err, Ok, Result}
 use Rattle.choice.proofs.Picks.{pick_ind, clash}
 use Rattle.usart.specs.Sender.{acknowledged_of}
 use Rattle.usart.specs.Unit.{txc_requested}
@@ -12,8 +13,7 @@ use Rattle.usart.specs.declared.sender.Sender.{Sender}
 use Rattle.usart.specs.declared.unit.Usart.{Usart}
 use Rattle.usart.specs.declared.write.Register.{Register}
 use Rattle.usart.specs.declared.write.Register.TheVariants.{Ucsr0a, Ucsr0b, Ucsr0c, Ubrr0l, Ubrr0h, Udr0}
-use Rattle.usart.specs.declared.write.Written.{Written}
-use Rattle.usart.specs.declared.write.Written.TheVariants.{Done, Refused}
+use Rattle.answer.specs.declared.Refusal.{Refusal}
 
 -- the unit with another sender
 abbrev pub OnlySender : Usart → Usart → Type 0
@@ -22,9 +22,9 @@ OnlySender u v = (s : Sender) × (v ≡ with_sender u s)
 pub unchanged : (u : Usart) → OnlySender u u
 unchanged u = (u.sender, refl)
 
-pub refused-settled : (u : Usart) (w : Written) → is_refused w ≡ true → settled u w ≡ u
-refused-settled u (Done v) e = clash e refl
-refused-settled u (Refused r) e = refl
+pub refused-settled : (u : Usart) (w : Result Usart Refusal) → is_refused w ≡ true → settled u w ≡ u
+refused-settled u (Ok v) e = clash e refl
+refused-settled u (Err r) e = refl
 
 pub only-transmitted : (u : Usart) (v : ℕ) → OnlySender u (transmitted_of u v)
 unfolding transmitted_of
@@ -32,7 +32,7 @@ only-transmitted u v = pick_ind (OnlySender u) u.control.txen _ _ (λ _. (_, ref
 
 pub only-vector : (u : Usart) → OnlySender u (settled u (vector_of u))
 unfolding vector_of
-only-vector u = pick_ind (λ (w : Written). OnlySender u (settled u w)) (txc_requested u) _ _ (λ _. (acknowledged_of u.sender, refl)) (λ _. unchanged u)
+only-vector u = pick_ind (λ (w : Result Usart Refusal). OnlySender u (settled u w)) (txc_requested u) _ _ (λ _. (acknowledged_of u.sender, refl)) (λ _. unchanged u)
 
 pub only-write : (u : Usart) (r : Register) (v : ℕ) → (is_udr0 r ≡ false → is_refused (write_of u r v) ≡ true) → OnlySender u (next_of u (write r v))
 only-write u Ucsr0a v h = (u.sender, refused-settled u (write_of u Ucsr0a v) (h refl))

@@ -4,14 +4,13 @@ use Prim.Native.Nat.{ℕ, zero, suc}
 use mathlib.Core.Bool.{Bool, true, false, not}
 use mathlib.Core.List.{List, [], ◌∷◌}
 use lib.Dec.{eqb}
+use Rattle.std.proofs.Common.{None, Some}
 use Rattle.choice.specs.Pick.{pick}
 use Rattle.frame.specs.declared.format.Size.TheVariants.{Five}
 use Rattle.frame.specs.declared.format.Parity.TheVariants.{Off, Even}
 use Rattle.usart.specs.Receiver.{stopped}
 use Rattle.usart.specs.Event.{Event, clock, write, read, vector}
 use Rattle.usart.specs.Line.{Sent, line_level}
-use Rattle.usart.specs.declared.sender.Buffer.TheVariants.{Vacant, Full}
-use Rattle.usart.specs.declared.sender.ShiftRegister.TheVariants.{Resting}
 use Rattle.usart.specs.declared.sampler.Sampler.TheVariants.{Idle}
 use Rattle.usart.specs.declared.queue.Places.TheVariants.{Empty}
 use Rattle.usart.specs.declared.unit.Usart.{Usart}
@@ -23,7 +22,7 @@ listening = record {
   baud = record { ubrr = 0; left = record { 0 = 0 } };
   format = record { size = Five; parity = Even; usbs = false; u2x = true };
   control = record { rxcie = false; txcie = false; udrie = false; rxen = true; txen = true; txb8 = false };
-  sender = record { buffer = Vacant; shifter = Resting; txc = false };
+  sender = record { buffer = None; shifter = None; txc = false };
   receiver = record { sampler = Idle true; queue = record { places = Empty; lost = false } };
 }
 
@@ -71,7 +70,7 @@ loaded = record {
   baud = record { ubrr = 1; left = record { 0 = 1 } };
   format = record { size = Five; parity = Off; usbs = true; u2x = true };
   control = record { rxcie = false; txcie = false; udrie = false; rxen = false; txen = true; txb8 = false };
-  sender = record { buffer = Full 21; shifter = Resting; txc = false };
+  sender = record { buffer = Some 21; shifter = None; txc = false };
   receiver = stopped;
 }
 

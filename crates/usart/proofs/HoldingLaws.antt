@@ -7,10 +7,12 @@ use native.Mathlib.Nat.{mod-eq_of_lt, mod-eq-sub-mod, div-eq_of_lt, div-eq-sub-d
 use native.Mathlib.Omega.{arith}
 use lib.Dec.{ltb}
 use borrow.Author.Tests.{ne_eqb, ltb-true, ltb-false}
+use Rattle.std.proofs.Common.{None, Option, Some}
 use Rattle.choice.specs.Pick.{pick}
 use Rattle.choice.specs.Times.{times}
 use Rattle.choice.proofs.Picks.{split, both, clash}
-use Rattle.choice.proofs.TimesLaws.{times-one, times-fixed}
+use Rattle.choice.proofs.TimesLaws.{times-fixed, times-part}
+use Rattle.advance.specs.Passing.{PassedOn}
 use Rattle.frame.specs.declared.format.Format.{Format}
 use Rattle.usart.specs.Baud.{ticks, left_of, baud_of, ticks_in}
 use Rattle.usart.specs.Sender.{is_vacant, is_resting, sender_of}
@@ -19,13 +21,12 @@ use Rattle.usart.specs.Receiver.{put_of, listened_of}
 use Rattle.usart.specs.Unit.{ticked_of, clock_of, output_of, is_driven, requests_of}
 use Rattle.usart.specs.Counting.{least, sender_quiet, receiver_quiet, counted_sender, counted_receiver}
 use Rattle.usart.specs.Holding.{held_of, passed_baud, held_sender, listened_at, held_receiver}
-use Rattle.usart.specs.Holding.{sender_rests, sampler_rests, receiver_rests, is_at_rest, PassedOn}
+use Rattle.usart.specs.Holding.{sender_rests, sampler_rests, receiver_rests, is_at_rest}
+use Rattle.usart.specs.Holding.{with_sending, sending_tick, with_listening, listening_tick}
 use Rattle.usart.specs.Write.{with_baud}
 use Rattle.usart.specs.declared.baud.Baud.{Baud}
-use Rattle.usart.specs.declared.sender.Buffer.{Buffer}
-use Rattle.usart.specs.declared.sender.Buffer.TheVariants.{Vacant, Full}
-use Rattle.usart.specs.declared.sender.ShiftRegister.{ShiftRegister}
-use Rattle.usart.specs.declared.sender.ShiftRegister.TheVariants.{Resting, Sending}
+use Rattle.usart.specs.declared.hold.Sending.{Sending}
+use Rattle.usart.specs.declared.hold.Listening.{Listening}
 use Rattle.usart.specs.declared.sender.Sender.{Sender}
 use Rattle.usart.specs.declared.sampler.Sampler.{Sampler}
 use Rattle.usart.specs.declared.sampler.Sampler.TheVariants.{Idle, Receiving}
@@ -35,6 +36,7 @@ use Rattle.usart.specs.declared.unit.Usart.{Usart}
 use Rattle.usart.proofs.ClockLaws.{with, same_parts}
 use Rattle.usart.proofs.CountingLaws.{least-le, sender-clock, sender-after, shifter-none, shifter-more}
 use Rattle.usart.proofs.CountingLaws.{receiver-clock, receiver-after, receiver-none, receiver-more}
+use Rattle.usart.specs.declared.sender.Transmission.{Transmission}
 
 abbrev at : ℕ → ℕ → Baud
 at left ubrr = record { ubrr = ubrr; left = record { 0 = left } }
@@ -108,11 +110,11 @@ pub sender-counts : (f : Format) (k : ℕ) (s : Sender) → k ≤ sender_quiet f
     → held_sender f s k ≡ counted_sender s k
 unfolding times
 sender-counts f zero s h =
-    ap (λ (x : ShiftRegister). record { buffer = s.buffer; shifter = x; txc = s.txc }) (sym (shifter-none s.shifter))
+    ap (λ (x : Option Transmission). record { buffer = s.buffer; shifter = x; txc = s.txc }) (sym (shifter-none s.shifter))
 sender-counts f (suc k) s h =
     ap (times (sender_of f) k) (sender-clock f s (omega arith))
     ∙ sender-counts f k (counted_sender s 1) (sender-after f s.buffer s.shifter k h)
-    ∙ ap (λ (x : ShiftRegister). record { buffer = s.buffer; shifter = x; txc = s.txc }) (shifter-more s.shifter k)
+    ∙ ap (λ (x : Option Transmission). record { buffer = s.buffer; shifter = x; txc = s.txc }) (shifter-more s.shifter k)
 
 pub receiver-counts : (rxen : Bool) (f : Format) (l : Bool) (k : ℕ) (r : Receiver) → k ≤ receiver_quiet rxen f r
     → held_receiver rxen f r l k ≡ counted_receiver rxen r k
@@ -123,13 +125,10 @@ receiver-counts rxen f l (suc k) r h =
     ∙ receiver-counts rxen f l k (counted_receiver rxen r 1) (receiver-after f rxen r k h)
     ∙ receiver-more rxen r k
 
--- what `passed` makes of it: one tick, or as many as only count
-pub passed-one : {A : Type 0} (step : A → A) (x : A) {n : ℕ} {y : A} → 1 ≤ n → y ≡ step x → PassedOn step x n 1 y
-passed-one step x h e = record { some = omega arith; few = h; steps = e ∙ sym (times-one step x) }
-
-pub passed-many : {A : Type 0} (step : A → A) (x : A) (quiet : ℕ) {n k : ℕ} {y : A} → k ≡ least quiet n → (k ≡ 0 → ⊥)
+-- what `counted` makes of it: as many as only count
+counted-many : {A : Type 0} (step : A → A) (x : A) (quiet : ℕ) {n k : ℕ} {y : A} → k ≡ least quiet n → (k ≡ 0 → ⊥)
     → (k ≤ quiet → y ≡ times step k x) → PassedOn step x n k y
-passed-many step x quiet {n} {k} q z e =
+counted-many step x quiet {n} {k} q z e =
     let b = least-le k quiet n (omega (arith, q)) in record { some = omega (arith, z); few = b.1; steps = e b.0 }
 
 -- a tick leaves a part at rest as it is
@@ -137,11 +136,11 @@ pub sender-rests : (f : Format) (s : Sender) → sender_rests s ≡ true → sen
 unfolding sender_rests
 sender-rests f s h = by s.buffer s.shifter s.txc h
   where
-    by : (b : Buffer) (x : ShiftRegister) (c : Bool) → pick (is_vacant b) (is_resting x) false ≡ true
+    by : (b : Option ℕ) (x : Option Transmission) (c : Bool) → pick (is_vacant b) (is_resting x) false ≡ true
         → sender_of f (record { buffer = b; shifter = x; txc = c }) ≡ record { buffer = b; shifter = x; txc = c }
-    by Vacant Resting c h = refl
-    by Vacant (Sending t) c h = clash h refl
-    by (Full d) x c h = clash h refl
+    by None None c h = refl
+    by None (Some t) c h = clash h refl
+    by (Some d) x c h = clash h refl
 
 sampler-rests : (f : Format) (s : Sampler) (l : Bool) → sampler_rests s l ≡ true → sampler_of f s l ≡ still s
 unfolding sampler_of idle_of
@@ -164,6 +163,42 @@ sender-stays f s n h = times-fixed (sender_of f) n s (sender-rests f s h)
 pub receiver-stays : (rxen : Bool) (f : Format) (r : Receiver) (l : Bool) (n : ℕ) → receiver_rests rxen r l ≡ true
     → held_receiver rxen f r l n ≡ r
 receiver-stays rxen f r l n h = times-fixed (listened_at rxen f l) n r (receiver-rests rxen f r l h)
+
+-- the steps of a part with its settings are the part's ticks
+sending-steps : (x : Sending) (n : ℕ) → times sending_tick n x ≡ with_sending x (held_sender x.format x.sender n)
+sending-steps x n = times-part (sender_of x.format) sending_tick (with_sending x) (λ s. refl) n x.sender
+
+listening-steps : (x : Listening) (n : ℕ) → times listening_tick n x ≡ with_listening x (held_receiver x.rxen x.format x.receiver x.rxd n)
+listening-steps x n =
+    times-part (listened_at x.rxen x.format x.rxd) listening_tick (with_listening x) (λ r. refl) n x.receiver
+
+-- what `rests` and `counted` make of it, and `hold`
+module _ (x : Sending) where
+  pub sending-rests : {b : Bool} → b ≡ sender_rests x.sender → b ≡ true → sending_tick x ≡ x
+  sending-rests e r = ap (with_sending x) (sender-rests x.format x.sender (sym e ∙ r))
+
+  pub sending-counted : {n k : ℕ} {s : Sender} → k ≡ least (sender_quiet x.format x.sender.buffer x.sender.shifter) n
+      → (k ≡ 0 → ⊥) → s ≡ counted_sender x.sender k → PassedOn sending_tick x n k (with_sending x s)
+  sending-counted {n} {k} q z e =
+      counted-many sending_tick x _ q z
+      (λ h. ap (with_sending x) (e ∙ sym (sender-counts x.format k x.sender h)) ∙ sym (sending-steps x k))
+
+  pub sending-held : (n : ℕ) {y : Sending} → y ≡ times sending_tick n x → y.sender ≡ held_sender x.format x.sender n
+  sending-held n e = ap (λ (s : Sending). s.sender) (e ∙ sending-steps x n)
+
+module _ (x : Listening) where
+  pub listening-rests : {b : Bool} → b ≡ receiver_rests x.rxen x.receiver x.rxd → b ≡ true → listening_tick x ≡ x
+  listening-rests e r = ap (with_listening x) (receiver-rests x.rxen x.format x.receiver x.rxd (sym e ∙ r))
+
+  pub listening-counted : {n k : ℕ} {r : Receiver} → k ≡ least (receiver_quiet x.rxen x.format x.receiver) n
+      → (k ≡ 0 → ⊥) → r ≡ counted_receiver x.rxen x.receiver k → PassedOn listening_tick x n k (with_listening x r)
+  listening-counted {n} {k} q z e =
+      counted-many listening_tick x _ q z
+      (λ h. ap (with_listening x) (e ∙ sym (receiver-counts x.rxen x.format x.rxd k x.receiver h)) ∙ sym (listening-steps x k))
+
+  pub listening-held : (n : ℕ) {y : Listening} → y ≡ times listening_tick n x
+      → y.receiver ≡ held_receiver x.rxen x.format x.receiver x.rxd n
+  listening-held n e = ap (λ (r : Listening). r.receiver) (e ∙ listening-steps x n)
 
 -- at rest n clocks change nothing but the baud counter ..
 pub rest-held : (u : Usart) (l : Bool) (n : ℕ) → is_at_rest u l ≡ true → held_of u l n ≡ with_baud u (passed_baud u.baud n)

@@ -37,5 +37,6 @@ pub mod AppendLaws
 pub mod SettingsLaws
 pub mod RefusalLaws
 pub mod CountingLaws
+pub mod FormatLaws
 pub mod HoldingLaws
 pub mod RestLaws

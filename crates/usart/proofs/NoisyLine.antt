@@ -178,7 +178,7 @@ module _ (f : Format) (c : Baud) (noise : Noise) (P Q : ℕ) (R : Rates (first_v
   -- a read of another register changes nothing
   looked : (es : List Event) → Claim es → (r : Register) → is_udr0 r ≡ false → Claim (read r ∷ es)
   looked es ih r o fs lo j u h a =
-      let same : (read_of u r).usart ≡ u = read_keeps u r o in
+      let same : (read_of u r).after ≡ u = read_keeps u r o in
       let d = ih fs lo j u h (subst (λ (x : Usart). Asked fs j x es) same (record {
         shows = a.shows;
         only = a.only;

@@ -9,6 +9,7 @@ use native.Mathlib.Nat.{mul-le-mul_right, le_of_mul-le-mul_right, lt_of_mul-lt-m
 use native.Mathlib.Omega.{arith}
 use lib.Dec.{ltb}
 use borrow.Author.Tests.{lt-ltb, le-ltb}
+use Rattle.std.proofs.Common.{None, Option, Some}
 use Rattle.choice.specs.Pick.{digit}
 use Rattle.choice.proofs.Picks.{pick_ind}
 use Rattle.frame.specs.Format.{samples, word_bits, last_bit}
@@ -19,33 +20,29 @@ use Rattle.usart.specs.Sender.{is_vacant, is_resting, moved_from, stepped_of, sh
 use Rattle.usart.specs.Unit.{bit_clocks, clock_of, is_driven, output_of}
 use Rattle.usart.specs.Event.{Event, clock, write, read, vector, next_of, final_of}
 use Rattle.usart.specs.Bit.{OnLine, Begins, clocks_in, Lasts, BitLasts}
-use Rattle.usart.specs.declared.sender.Buffer.{Buffer}
-use Rattle.usart.specs.declared.sender.Buffer.TheVariants.{Vacant, Full}
 use Rattle.usart.specs.declared.sender.Transmission.{Transmission}
-use Rattle.usart.specs.declared.sender.ShiftRegister.{ShiftRegister}
-use Rattle.usart.specs.declared.sender.ShiftRegister.TheVariants.{Resting, Sending}
 use Rattle.usart.specs.declared.sender.Sender.{Sender}
 use Rattle.usart.specs.declared.unit.Usart.{Usart}
 use Rattle.usart.proofs.ClockLaws.{clock-tick, clock-wait}
 use Rattle.usart.proofs.BusyLaws.{either, Kept, kept-write, kept_read, kept-vector}
 
-abbrev sending_at : ℕ → ℕ → ℕ → ShiftRegister
-sending_at w b n = Sending (record { word = w; bit = b; sample = record { 0 = n } })
+abbrev sending_at : ℕ → ℕ → ℕ → Option Transmission
+sending_at w b n = Some (record { word = w; bit = b; sample = record { 0 = n } })
 
 -- what is in the shifter is one word, one bit and one count
-abbrev word_in : ShiftRegister → ℕ
-word_in Resting = 0
-word_in (Sending t) = t.word
+abbrev word_in : Option Transmission → ℕ
+word_in None = 0
+word_in (Some t) = t.word
 
-abbrev bit_in : ShiftRegister → ℕ
-bit_in Resting = 0
-bit_in (Sending t) = t.bit
+abbrev bit_in : Option Transmission → ℕ
+bit_in None = 0
+bit_in (Some t) = t.bit
 
-abbrev passed_in : ShiftRegister → ℕ
-passed_in Resting = 0
-passed_in (Sending t) = t.sample.0
+abbrev passed_in : Option Transmission → ℕ
+passed_in None = 0
+passed_in (Some t) = t.sample.0
 
-rests-not : {w b n : ℕ} → Resting ≡ sending_at w b n → ⊥
+rests-not : {w b n : ℕ} → None ≡ sending_at w b n → ⊥
 rests-not e = true≢false (ap is_resting e)
 
 -- a shifter that sends is driven
@@ -55,7 +52,7 @@ unfolding output_of is_driven
 driven u w b n e = rw (e, either (is_vacant u.sender.buffer), either u.control.txen)
 
 -- a clock, by the baud counter before it: k is in the counter after it, and x in the shifter
-record Clocked (u v : Usart) (k : ℕ) (x : ShiftRegister) : Type 0 where
+record Clocked (u v : Usart) (k : ℕ) (x : Option Transmission) : Type 0 where
   format : v.format ≡ u.format
   rate : v.baud.ubrr ≡ u.baud.ubrr
   counter : v.baud.left.0 ≡ k
@@ -95,34 +92,34 @@ module _ (f : Format) where
 
   -- a bit that is in the shifter after a tick was there before it, or none of its ticks has passed
   module _ (w b n : ℕ) where
-    abbrev Fresh : ShiftRegister → Type 0
+    abbrev Fresh : Option Transmission → Type 0
     Fresh x = (n ≡ 0) ⊎ ((m : ℕ) × (x ≡ sending_at w b m))
 
-    fresh-moved : (x : ShiftRegister) (y : Buffer) (kept txc : Bool) → (moved_from f y kept txc).shifter ≡ sending_at w b n → Fresh x
-    fresh-moved x Vacant kept txc e = absurd (rests-not e)
-    fresh-moved x (Full d) kept txc e = inl (sym (ap passed_in e))
+    fresh-moved : (x : Option Transmission) (y : Option ℕ) (kept txc : Bool) → (moved_from f y kept txc).shifter ≡ sending_at w b n → Fresh x
+    fresh-moved x None kept txc e = absurd (rests-not e)
+    fresh-moved x (Some d) kept txc e = inl (sym (ap passed_in e))
 
-    there : (t : Transmission) → t.word ≡ w → t.bit ≡ b → Sending t ≡ sending_at w b t.sample.0
+    there : (t : Transmission) → t.word ≡ w → t.bit ≡ b → Some t ≡ sending_at w b t.sample.0
     there t p q = ap₂ (λ (x y : ℕ). sending_at x y t.sample.0) p q
 
-    fresh : (s : Sender) (x : ShiftRegister) → (shifted_on f s x).shifter ≡ sending_at w b n → Fresh x
+    fresh : (s : Sender) (x : Option Transmission) → (shifted_on f s x).shifter ≡ sending_at w b n → Fresh x
     unfolding stepped_of
-    fresh s Resting = fresh-moved Resting s.buffer s.txc s.txc
-    fresh s (Sending t) =
-        pick_ind (λ (z : Sender). z.shifter ≡ sending_at w b n → Fresh (Sending t)) (ltb t.sample.0 (S - 1)) _ _
+    fresh s None = fresh-moved None s.buffer s.txc s.txc
+    fresh s (Some t) =
+        pick_ind (λ (z : Sender). z.shifter ≡ sending_at w b n → Fresh (Some t)) (ltb t.sample.0 (S - 1)) _ _
         (λ _ e. inr (t.sample.0, there t (ap word_in e) (ap bit_in e)))
-        (λ _. pick_ind (λ (z : Sender). z.shifter ≡ sending_at w b n → Fresh (Sending t)) (ltb t.bit (last_bit f)) _ _
+        (λ _. pick_ind (λ (z : Sender). z.shifter ≡ sending_at w b n → Fresh (Some t)) (ltb t.bit (last_bit f)) _ _
         (λ _ e. inl (sym (ap passed_in e)))
-        (λ _. fresh-moved (Sending t) s.buffer s.txc true))
+        (λ _. fresh-moved (Some t) s.buffer s.txc true))
 
   -- where the shifter takes what the buffer holds, a start bit begins
-  loads : (d : ℕ) (u : Usart) (rxd kept txc : Bool) → u.format ≡ f → u.baud.left.0 ≡ 0 → u.sender.buffer ≡ Full d
+  loads : (d : ℕ) (u : Usart) (rxd kept txc : Bool) → u.format ≡ f → u.baud.left.0 ≡ 0 → u.sender.buffer ≡ Some d
       → (sender_of f u.sender).shifter ≡ (moved_from f u.sender.buffer kept txc).shifter → (OnLine f (word_of f d) 0 u → ⊥) → Begins f (word_of f d) 0 u rxd
   loads d u rxd kept txc ef left full e none =
       let c = ticked f u rxd ef left in
       record {
         before = none;
-        after = shown (word_of f d) 0 0 (clock_of u rxd) (c.format ∙ ef) (c.shifter ∙ e ∙ ap (λ (y : Buffer). (moved_from f y kept txc).shifter) full);
+        after = shown (word_of f d) 0 0 (clock_of u rxd) (c.format ∙ ef) (c.shifter ∙ e ∙ ap (λ (y : Option ℕ). (moved_from f y kept txc).shifter) full);
       }
 
   module _ (ubrr w b : ℕ) where
@@ -155,7 +152,7 @@ module _ (f : Format) where
     clocked : (k : ℕ) (u : Usart) (rxd : Bool) → Within k u → suc k < S * M → Within (suc k) (clock_of u rxd)
     clocked k u rxd i h = by u.baud.left.0 refl
       where
-        goes : (left n : ℕ) (x : ShiftRegister) → Clocked u (clock_of u rxd) left x → x ≡ sending_at w b n → n < S → suc k + left ≡ n * M + ubrr
+        goes : (left n : ℕ) (x : Option Transmission) → Clocked u (clock_of u rxd) left x → x ≡ sending_at w b n → n < S → suc k + left ≡ n * M + ubrr
             → Within (suc k) (clock_of u rxd)
         goes left n x c e g q = record {
           format = c.format ∙ i.format;
@@ -209,9 +206,9 @@ module _ (f : Format) where
       other : (v c : ℕ) → (b ≡ c → ⊥) → OnLine f v c u → ⊥
       other v c ne o = ne (ap bit_in (sym z.shifter ∙ o.shifter))
 
-      gone : (n : ℕ) (y : Buffer) → 1 ≤ b → (moved_from f y u.sender.txc true).shifter ≡ sending_at w b n → ⊥
-      gone n Vacant p e = rests-not e
-      gone n (Full d) p e = let q : 0 ≡ b = ap bit_in e in omega arith
+      gone : (n : ℕ) (y : Option ℕ) → 1 ≤ b → (moved_from f y u.sender.txc true).shifter ≡ sending_at w b n → ⊥
+      gone n None p e = rests-not e
+      gone n (Some d) p e = let q : 0 ≡ b = ap bit_in e in omega arith
 
       is-over : (rxd : Bool) → OnLine f w b (clock_of u rxd) → ⊥
       is-over rxd o =
@@ -229,7 +226,7 @@ module _ (f : Format) where
             after = shown w (b + 1) 0 (clock_of u rxd) (c.format ∙ z.format) (c.shifter ∙ turns h);
           }
 
-      next-frame : (rxd : Bool) (d : ℕ) → b ≡ last_bit f → u.sender.buffer ≡ Full d → Begins f (word_of f d) 0 u rxd
+      next-frame : (rxd : Bool) (d : ℕ) → b ≡ last_bit f → u.sender.buffer ≡ Some d → Begins f (word_of f d) 0 u rxd
       next-frame rxd d h full =
           loads d u rxd u.sender.txc true z.format z.tick full (moves (omega arith)) (other (word_of f d) 0 (λ e. omega (arith, stop-bits-range f)))
 
@@ -273,7 +270,7 @@ begun u rxd w b g = by u.baud.left.0 refl
 pub bit-lasts : (u : Usart) → BitLasts (bit_clocks u) u
 bit-lasts u = record {
   first = λ rxd d left rest full.
-      loads u.format d u rxd u.sender.txc u.sender.txc refl left full (ap (λ (x : ShiftRegister). (shifted_on u.format u.sender x).shifter) rest)
+      loads u.format d u rxd u.sender.txc u.sender.txc refl left full (ap (λ (x : Option Transmission). (shifted_on u.format u.sender x).shifter) rest)
       (λ o. rests-not (sym rest ∙ o.shifter));
   each = λ rxd w b g. lasts u.format u.baud.ubrr w b (clock_of u rxd) (begun u rxd w b g);
 }

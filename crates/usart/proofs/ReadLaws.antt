@@ -23,7 +23,7 @@ use Rattle.usart.specs.declared.write.Register.TheVariants.{Ucsr0a, Ucsr0b, Ucsr
 
 -- only a read of UDR0 changes anything
 pub each_read : (P : Usart → Type 0) (u : Usart) (r : Register) → (is_udr0 r ≡ false → P u) → (is_udr0 r ≡ true → P (popped_of u))
-    → P (read_of u r).usart
+    → P (read_of u r).after
 each_read P u Ucsr0a other it = other refl
 each_read P u Ucsr0b other it = other refl
 each_read P u Ucsr0c other it = other refl
@@ -31,7 +31,7 @@ each_read P u Ubrr0l other it = other refl
 each_read P u Ubrr0h other it = other refl
 each_read P u Udr0 other it = it refl
 
-pub read_keeps : (u : Usart) (r : Register) → is_udr0 r ≡ false → (read_of u r).usart ≡ u
+pub read_keeps : (u : Usart) (r : Register) → is_udr0 r ≡ false → (read_of u r).after ≡ u
 read_keeps u r e = each_read (λ (v : Usart). v ≡ u) u r (λ _. refl) (λ t. clash t e)
 
 -- flags in a byte, as in UCSR0A, each read back by its place

@@ -177,7 +177,7 @@ module _ (f : Format) (ubrr P Q : ℕ) (R : Rates (first_vote f) (ubrr + 1) P Q 
   -- a read of another register changes nothing
   looked : (es : List Event) → Claim es → (r : Register) → is_udr0 r ≡ false → Claim (read r ∷ es)
   looked es ih r o fs lo j u e h a =
-      let same : (read_of u r).usart ≡ u = read_keeps u r o in
+      let same : (read_of u r).after ≡ u = read_keeps u r o in
       let d = ih fs lo j u e h (subst (λ (x : Usart). Asked fs j x es) same (record {
         shows = a.shows;
         only = a.only;

@@ -6,6 +6,7 @@ use mathlib.Core.Path.{◌≡◌, refl, sym, ap, ◌∙◌}
 use native.Mathlib.Omega.{arith}
 use lib.Dec.{eqb, leb}
 use borrow.Author.Tests.{eq-eqb, ne_eqb, eqb-true, eqb-false, leb-true, leb-false}
+use Rattle.std.proofs.Common.{Err, None, Ok, Option, Result, Some}
 use Rattle.answer.specs.Number.{number_of}
 use Rattle.answer.specs.declared.Refusal.{Refusal}
 use Rattle.answer.specs.declared.Refusal.TheVariants.{Reserved, Unmodelled, UnderWay, Unrequested}
@@ -21,23 +22,19 @@ use Rattle.usart.specs.Write.{with_baud, formatted_of, txc_cleared, with_u2x, wr
 use Rattle.usart.specs.Write.{is_reserved_c, format_in, sized_c, coded_c, write_c, timed_of, write_h, write_of, vector_of}
 use Rattle.usart.specs.Refusing.{number_in, is_reserved, is_unmodelled, changes, is_under_way}
 use Rattle.usart.specs.declared.baud.Baud.{Baud}
-use Rattle.usart.specs.declared.settings.Coded.{Coded}
-use Rattle.usart.specs.declared.settings.Coded.TheVariants.{Known, Reserved as ReservedCode}
 use Rattle.usart.specs.declared.unit.Usart.{Usart}
 use Rattle.usart.specs.declared.write.Register.{Register}
 use Rattle.usart.specs.declared.write.Register.TheVariants.{Ucsr0a, Ucsr0b, Ucsr0c, Ubrr0l, Ubrr0h, Udr0}
-use Rattle.usart.specs.declared.write.Written.{Written}
-use Rattle.usart.specs.declared.write.Written.TheVariants.{Done, Refused}
 use Rattle.usart.proofs.SettingsLaws.{code_lt, upm-again, Codes, coded, same-settings}
 
 -- a refusal by a test, and one by its failing
-refused-by : (r : Refusal) (w : Written) (t : Bool) {n : ℕ} → number_in w ≡ n
-    → number_in (pick t (Refused r) w) ≡ pick t (number_of r) n
+refused-by : (r : Refusal) (w : Result Usart Refusal) (t : Bool) {n : ℕ} → number_in w ≡ n
+    → number_in (pick t (Err r) w) ≡ pick t (number_of r) n
 refused-by r w true h = refl
 refused-by r w false h = h
 
-refused-not : (r : Refusal) (w : Written) (t : Bool) {n : ℕ} → number_in w ≡ n
-    → number_in (pick t w (Refused r)) ≡ pick (not t) (number_of r) n
+refused-not : (r : Refusal) (w : Result Usart Refusal) (t : Bool) {n : ℕ} → number_in w ≡ n
+    → number_in (pick t w (Err r)) ≡ pick (not t) (number_of r) n
 refused-not r w true h = h
 refused-not r w false h = refl
 
@@ -61,7 +58,7 @@ module _ (a b p q s t c d : ℕ) (f : p ≡ q → s ≡ t → c ≡ d → a ≡ 
 formatted-number : (u : Usart) (busy : Bool) (f : Format)
     → number_in (formatted_of u busy f) ≡ pick (busy && not (eqb (settings_of f) (settings_of u.format))) 4 0
 unfolding formatted_of
-formatted-number u true f = refused-not UnderWay (Done u) (eqb (settings_of f) (settings_of u.format)) refl
+formatted-number u true f = refused-not UnderWay (Ok u) (eqb (settings_of f) (settings_of u.format)) refl
 formatted-number u false f = refl
 
 -- A
@@ -100,12 +97,12 @@ test-b f z v h =
     (λ e. ap (λ (n : ℕ). n + digit f.usbs * 8 + upm_of f.parity * 16 + digit f.u2x * 64) (omega (arith, h, e)))
     (λ e. omega (arith, h, (same-settings g f e).size, code_lt f.size))
 
-coded-b : (u : Usart) (v : ℕ) (k : Coded) → Codes (v / 4 % 2 * 4 + code_of u.format.size % 4) k
+coded-b : (u : Usart) (v : ℕ) (k : Option Size) → Codes (v / 4 % 2 * 4 + code_of u.format.size % 4) k
     → number_in (coded_b u v k) ≡ pick (not (is_known k)) 2 (pick (is_under_way u Ucsr0b v) 4 0)
-coded-b u v (Known z) h =
+coded-b u v (Some z) h =
     formatted-number (controlled u v) (is_busy u) (with_size u.format z)
     ∙ ap (λ (x : Bool). pick (is_busy u && not x) 4 0) (test-b u.format z v h)
-coded-b u v ReservedCode h = refl
+coded-b u v None h = refl
 
 -- C
 umsel : (n : ℕ) → n < 4 → eqb n 2 ≡ false → not (eqb n 0) ≡ (eqb n 1 || eqb n 3)
@@ -137,14 +134,14 @@ sized-c u z v b m e h =
     (formatted-number u (is_busy u) (format_in u z v) ∙ ap (λ (x : Bool). pick (is_busy u && x) 4 0) (test-c u z v h e))
     ∙ ap (λ (x : Bool). pick x 3 (pick (is_under_way u Ucsr0c v) 4 0)) (umsel (v / 64) (omega (arith, b)) m)
 
-coded-c : (u : Usart) (v : ℕ) (k : Coded) → v < 256 → eqb (v / 64) 2 ≡ false → eqb (v / 16 % 4) 1 ≡ false
+coded-c : (u : Usart) (v : ℕ) (k : Option Size) → v < 256 → eqb (v / 64) 2 ≡ false → eqb (v / 16 % 4) 1 ≡ false
     → Codes (code_of u.format.size / 4 * 4 + v / 2 % 4) k
     → number_in (coded_c u v k) ≡ pick (not (is_known k)) 2 (pick (is_unmodelled u Ucsr0c v) 3 (pick (is_under_way u Ucsr0c v) 4 0))
-coded-c u v (Known z) b m e h = sized-c u z v b m e h
-coded-c u v ReservedCode b m e h = refl
+coded-c u v (Some z) b m e h = sized-c u z v b m e h
+coded-c u v None b m e h = refl
 
-reserved-by : (w : Written) (a b c t : Bool) (n : ℕ) → (a ≡ false → b ≡ false → number_in w ≡ pick t 2 n)
-    → number_in (pick (pick a true (pick b true c)) (Refused Reserved) w) ≡ pick (a || b || c || t) 2 n
+reserved-by : (w : Result Usart Refusal) (a b c t : Bool) (n : ℕ) → (a ≡ false → b ≡ false → number_in w ≡ pick t 2 n)
+    → number_in (pick (pick a true (pick b true c)) (Err Reserved) w) ≡ pick (a || b || c || t) 2 n
 reserved-by w true b c t n h = refl
 reserved-by w false true c t n h = refl
 reserved-by w false false true t n h = refl
@@ -163,7 +160,7 @@ timed-number : (u : Usart) (b : Baud) → number_in (timed_of u b) ≡ pick (is_
 unfolding timed_of
 timed-number u b = by (is_busy u)
   where
-    by : (busy : Bool) → number_in (pick busy (Refused UnderWay) (Done (with_baud u b))) ≡ pick (busy && true) 4 0
+    by : (busy : Bool) → number_in (pick busy (Err UnderWay) (Ok (with_baud u b))) ≡ pick (busy && true) 4 0
     by true = refl
     by false = refl
 
@@ -198,6 +195,6 @@ pub vector-number : (u : Usart) → number_in (vector_of u) ≡ pick (txc_reques
 unfolding vector_of
 vector-number u = by _ (txc_requested u)
   where
-    by : (w : Usart) (t : Bool) → number_in (pick t (Done w) (Refused Unrequested)) ≡ pick t 0 8
+    by : (w : Usart) (t : Bool) → number_in (pick t (Ok w) (Err Unrequested)) ≡ pick t 0 8
     by w true = refl
     by w false = refl

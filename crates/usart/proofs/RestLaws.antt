@@ -7,6 +7,7 @@ use native.Mathlib.Nat.{le-div_iff_mul-le}
 use native.Mathlib.Omega.{arith}
 use lib.Dec.{eqb, ltb, leb}
 use borrow.Author.Tests.{ltb-true, ltb-false, leb-true, leb-false}
+use Rattle.std.proofs.Common.{None, Option, Some}
 use Rattle.choice.specs.Pick.{pick}
 use Rattle.choice.specs.Times.{times}
 use Rattle.choice.proofs.Picks.{pick_ind, clash}
@@ -25,11 +26,7 @@ use Rattle.usart.specs.Holding.{held_of, held_sender, listened_at, held_receiver
 use Rattle.usart.specs.Holding.{sender_rests, sampler_rests, receiver_rests, is_at_rest, resting_from}
 use Rattle.usart.specs.Valid.{ValidBaud, ValidTransmission, ValidShifter, ValidSender, ValidReception, ValidSampler, ValidReceiver, Valid}
 use Rattle.usart.specs.declared.baud.Baud.{Baud}
-use Rattle.usart.specs.declared.sender.Buffer.{Buffer}
-use Rattle.usart.specs.declared.sender.Buffer.TheVariants.{Vacant, Full}
 use Rattle.usart.specs.declared.sender.Transmission.{Transmission}
-use Rattle.usart.specs.declared.sender.ShiftRegister.{ShiftRegister}
-use Rattle.usart.specs.declared.sender.ShiftRegister.TheVariants.{Resting, Sending}
 use Rattle.usart.specs.declared.sender.Sender.{Sender}
 use Rattle.usart.specs.declared.sample.Sample.{Sample}
 use Rattle.usart.specs.declared.sampler.Reception.{Reception}
@@ -46,13 +43,13 @@ abbrev to_end : Format → Transmission → ℕ
 to_end f t = (last_bit f - t.bit) * 16 + (samples f - t.sample.0)
 
 -- a frame that waits follows with the tick that ends the one in the shifter, or with the next one
-abbrev waiting : Buffer → ℕ
-waiting Vacant = 0
-waiting (Full d) = 208
+abbrev waiting : Option ℕ → ℕ
+waiting None = 0
+waiting (Some d) = 208
 
-abbrev shifter_far : Format → Buffer → ShiftRegister → ℕ
-shifter_far f b Resting = pick (is_vacant b) 0 209
-shifter_far f b (Sending t) = waiting b + to_end f t
+abbrev shifter_far : Format → Option ℕ → Option Transmission → ℕ
+shifter_far f b None = pick (is_vacant b) 0 209
+shifter_far f b (Some t) = waiting b + to_end f t
 
 abbrev sender_far : Format → Sender → ℕ
 sender_far f s = shifter_far f s.buffer s.shifter
@@ -62,9 +59,9 @@ module _ (f : Format) where
   whole : last_bit f * 16 + samples f ≤ 208
   whole = omega (arith, word-bits-range f, stop-bits-range f, samples-range f)
 
-  moved-nears : (b : Buffer) (kept txc : Bool) (n : ℕ) → 1 ≤ n → sender_far f (moved_from f b kept txc) < waiting b + n
-  moved-nears Vacant kept txc n h = omega arith
-  moved-nears (Full d) kept txc n h = omega (arith, whole)
+  moved-nears : (b : Option ℕ) (kept txc : Bool) (n : ℕ) → 1 ≤ n → sender_far f (moved_from f b kept txc) < waiting b + n
+  moved-nears None kept txc n h = omega arith
+  moved-nears (Some d) kept txc n h = omega (arith, whole)
 
   stepped-nears : (s : Sender) (t : Transmission) → ValidTransmission f t → sender_far f (stepped_of f s t) < waiting s.buffer + to_end f t
   unfolding stepped_of
@@ -79,20 +76,20 @@ module _ (f : Format) where
   unfolding sender_rests
   sender-nears s v h = by s.buffer s.shifter s.txc v.shifter h
     where
-      by : (b : Buffer) (x : ShiftRegister) (c : Bool) → ValidShifter f x → pick (is_vacant b) (is_resting x) false ≡ false
+      by : (b : Option ℕ) (x : Option Transmission) (c : Bool) → ValidShifter f x → pick (is_vacant b) (is_resting x) false ≡ false
           → sender_far f (sender_of f (record { buffer = b; shifter = x; txc = c })) < shifter_far f b x
-      by Vacant Resting c w q = clash refl q
-      by (Full d) Resting c w q = omega (arith, whole)
-      by b (Sending t) c w q = stepped-nears (record { buffer = b; shifter = Sending t; txc = c }) t w
+      by None None c w q = clash refl q
+      by (Some d) None c w q = omega (arith, whole)
+      by b (Some t) c w q = stepped-nears (record { buffer = b; shifter = Some t; txc = c }) t w
 
   sender-far : (s : Sender) → sender_far f s ≤ 416
   sender-far s = by s.buffer s.shifter
     where
-      by : (b : Buffer) (x : ShiftRegister) → shifter_far f b x ≤ 416
-      by Vacant Resting = omega arith
-      by (Full d) Resting = omega arith
-      by Vacant (Sending t) = omega (arith, whole)
-      by (Full d) (Sending t) = omega (arith, whole)
+      by : (b : Option ℕ) (x : Option Transmission) → shifter_far f b x ≤ 416
+      by None None = omega arith
+      by (Some d) None = omega arith
+      by None (Some t) = omega (arith, whole)
+      by (Some d) (Some t) = omega (arith, whole)
 
   sender-settles : (s : Sender) (n : ℕ) → ValidSender f s → 416 ≤ n → sender_rests (held_sender f s n) ≡ true
   sender-settles s n v h =
@@ -205,7 +202,7 @@ module _ (f : Format) (l : Bool) where
 abbrev longest : Format
 longest = record { size = Nine; parity = Even; usbs = true; u2x = false }
 
-pub not-at-415 : sender_rests (held_sender longest (record { buffer = Full 0; shifter = Sending (begun longest 0); txc = false }) 415) ≡ false
+pub not-at-415 : sender_rests (held_sender longest (record { buffer = Some 0; shifter = Some (begun longest 0); txc = false }) 415) ≡ false
 unfolding sender_rests times stepped_of
 not-at-415 = refl
 

@@ -10,6 +10,7 @@ use lib.Dec.{ltb}
 use lib.ListN.{length}
 use lib.Pow.{pow_pos}
 use borrow.Author.Tests.{ltb-true, ltb-false, le-leb, lt-leb}
+use Rattle.std.proofs.Common.{None, Option, Result, Some}
 use Rattle.choice.specs.Pick.{pick, digit}
 use Rattle.choice.proofs.Picks.{pick_ind}
 use Rattle.frame.specs.Format.{samples, data_bits, word_bits, last_bit}
@@ -24,19 +25,16 @@ use Rattle.usart.specs.Event.{Event, clock, write, read, vector, settled, next_o
 use Rattle.usart.specs.Line.{Sent, line_level, Fits}
 use Rattle.usart.specs.Valid.{ValidBuffer}
 use Rattle.usart.specs.Sending.{MaySend, waiting, accepted_by, Taken, taken_at, taken_of, tick_from, later_of, frames_from, frames_of, not_before, outputs_of, Drives, data_in, Sends}
-use Rattle.usart.specs.declared.sender.Buffer.{Buffer}
-use Rattle.usart.specs.declared.sender.Buffer.TheVariants.{Vacant, Full}
 use Rattle.usart.specs.declared.sender.Transmission.{Transmission}
-use Rattle.usart.specs.declared.sender.ShiftRegister.TheVariants.{Resting, Sending}
 use Rattle.usart.specs.declared.sender.Sender.{Sender}
 use Rattle.usart.specs.declared.unit.Usart.{Usart}
-use Rattle.usart.specs.declared.write.Written.{Written}
 use Rattle.usart.specs.declared.write.Register.{Register}
 use Rattle.usart.specs.declared.write.Register.TheVariants.{Ucsr0a, Ucsr0b, Ucsr0c, Ubrr0l, Ubrr0h, Udr0}
 use Rattle.usart.proofs.LineLaws.{From, later, from-spaced, over, within, quiet}
 use Rattle.usart.proofs.EventLaws.{refused-settled}
 use Rattle.usart.proofs.ClockLaws.{clock-tick, clock-wait}
 use Rattle.usart.proofs.TickLaws.{Phase, tick-next, tick-from, phase-first, phase-tick, phase-wait}
+use Rattle.answer.specs.declared.Refusal.{Refusal}
 
 -- an enabled sender drives its level
 output-driven : (u : Usart) → u.control.txen ≡ true → output_of u ≡ digit (txd_of u.format u.sender.shifter) + 16
@@ -57,7 +55,7 @@ outputs-length u (read r ∷ es) = outputs-length (next_of u (read r)) es
 outputs-length u (vector ∷ es) = outputs-length (next_of u vector) es
 
 -- what is in the buffer before clock j, and what it takes later
-abbrev ahead : ℕ → Buffer → List Taken → List Taken
+abbrev ahead : ℕ → Option ℕ → List Taken → List Taken
 ahead j b ts = map (taken_at j) (waiting b) ++ ts
 
 -- the first of them is there from clock j on, or later
@@ -132,8 +130,8 @@ module _ (first : Usart) where
 
   -- the frame that is on the line before clock j, if any, and the clock from which the next may start
   data Place (u : Usart) (j : ℕ) : List Sent → ℕ → Type 0 where
-    resting : {lo : ℕ} → u.sender.shifter ≡ Resting → lo ≤ j → Place u j [] lo
-    sending : (t : Transmission) (s : Sent) → u.sender.shifter ≡ Sending t → t.word ≡ word_of f s.«data»
+    resting : {lo : ℕ} → u.sender.shifter ≡ None → lo ≤ j → Place u j [] lo
+    sending : (t : Transmission) (s : Sent) → u.sender.shifter ≡ Some t → t.word ≡ word_of f s.«data»
         → InBit j u.baud.left.0 t.bit t.sample.0 s.start → Place u j (s ∷ []) (s.start + N * P)
 
   -- the frames of ts, the first of which may begin from lo on
@@ -171,9 +169,9 @@ module _ (first : Usart) where
       ap (λ (i : ℕ). let n : ℕ = tick_from first.baud i in record { start = n; «data» = t.«data» } ∷ Frames (n + N * P) ts) e
 
   -- it begins at the same tick if clock j begins no frame
-  waits : (lo j : ℕ) (x : Buffer) (ts : List Taken) → tick_from first.baud (later_of lo (suc j)) ≡ tick_from first.baud (later_of lo j) → Frames lo (ahead (suc j) x ts) ≡ Frames lo (ahead j x ts)
-  waits lo j Vacant ts e = refl
-  waits lo j (Full d) ts e = ap (λ (n : ℕ). record { start = n; «data» = d } ∷ Frames (n + N * P) ts) e
+  waits : (lo j : ℕ) (x : Option ℕ) (ts : List Taken) → tick_from first.baud (later_of lo (suc j)) ≡ tick_from first.baud (later_of lo j) → Frames lo (ahead (suc j) x ts) ≡ Frames lo (ahead j x ts)
+  waits lo j None ts e = refl
+  waits lo j (Some d) ts e = ap (λ (n : ℕ). record { start = n; «data» = d } ∷ Frames (n + N * P) ts) e
 
   -- within bit b of the frame s nothing else is seen
   only : (s : Sent) (fs : List Sent) (b j : ℕ) → From D P 1 (s.start + N * P) fs → b < N → s.start + b * P ≤ j → j < s.start + (b + 1) * P
@@ -195,7 +193,7 @@ module _ (first : Usart) where
       ]
 
   -- after a clock the shifter rests
-  rests : (es : List Event) → Claim es → (lo j : ℕ) (v : Usart) → Stays v → Phase first.baud (suc j) v.baud.left.0 → v.sender.shifter ≡ Resting → lo ≤ j
+  rests : (es : List Event) → Claim es → (lo j : ℕ) (v : Usart) → Stays v → Phase first.baud (suc j) v.baud.left.0 → v.sender.shifter ≡ None → lo ≤ j
       → ValidBuffer f v.sender.buffer → OnlyData v es → Clocks [] (Frames lo (ahead (suc j) v.sender.buffer (taken_of (suc j) v es))) j v es
   rests es ih lo j v st ph sh h vb on =
       let ts : List Taken = ahead (suc j) v.sender.buffer (taken_of (suc j) v es) in
@@ -207,7 +205,7 @@ module _ (first : Usart) where
 
   -- after a clock the frame s is on the line, in the bit of t
   sends-on : (es : List Event) → Claim es → (s : Sent) (t : Transmission) (j : ℕ) (v : Usart) → Stays v → Phase first.baud (suc j) v.baud.left.0
-      → v.sender.shifter ≡ Sending t → t.word ≡ word_of f s.«data» → InBit (suc j) v.baud.left.0 t.bit t.sample.0 s.start
+      → v.sender.shifter ≡ Some t → t.word ≡ word_of f s.«data» → InBit (suc j) v.baud.left.0 t.bit t.sample.0 s.start
       → s.start + t.bit * P ≤ j → j < s.start + (t.bit + 1) * P → ValidBuffer f v.sender.buffer → OnlyData v es
       → Clocks (s ∷ []) (Frames (s.start + N * P) (ahead (suc j) v.sender.buffer (taken_of (suc j) v es))) j v es
   sends-on es ih s t j v st ph sh ew i lo hi vb on =
@@ -219,8 +217,8 @@ module _ (first : Usart) where
       (output-driven v st.txen ∙ ap (λ (x : Bool). digit x + 16) level, ih (s ∷ []) (s.start + N * P) (suc j) v st ph (sending t s sh ew i) vb on)
 
   -- the same, where the buffer is as it was before the clock, and the frame s has not ended at the clock
-  sends-still : (es : List Event) → Claim es → (s : Sent) (t : Transmission) (j : ℕ) (x : Buffer) (v : Usart) → Stays v → Phase first.baud (suc j) v.baud.left.0
-      → v.sender.shifter ≡ Sending t → v.sender.buffer ≡ x → t.word ≡ word_of f s.«data» → InBit (suc j) v.baud.left.0 t.bit t.sample.0 s.start
+  sends-still : (es : List Event) → Claim es → (s : Sent) (t : Transmission) (j : ℕ) (x : Option ℕ) (v : Usart) → Stays v → Phase first.baud (suc j) v.baud.left.0
+      → v.sender.shifter ≡ Some t → v.sender.buffer ≡ x → t.word ≡ word_of f s.«data» → InBit (suc j) v.baud.left.0 t.bit t.sample.0 s.start
       → s.start + t.bit * P ≤ j → j < s.start + (t.bit + 1) * P → ValidBuffer f x → OnlyData v es
       → Clocks (s ∷ []) (Frames (s.start + N * P) (ahead j x (taken_of (suc j) v es))) j v es
   sends-still es ih s t j x v st ph sh bu ew i lo hi vb on =
@@ -228,25 +226,25 @@ module _ (first : Usart) where
       let m : (t.bit + 1) * P ≤ N * P = mul-le-mul_right P (omega (arith, i.bit)) in
       let e : later_of n (suc j) ≡ later_of n j = omega arith in
       subst (λ (fs : List Sent). Clocks (s ∷ []) fs j v es)
-      (ap (λ (y : Buffer). Frames n (ahead (suc j) y (taken_of (suc j) v es))) bu ∙ waits n j x (taken_of (suc j) v es) (ap (tick_from first.baud) e))
+      (ap (λ (y : Option ℕ). Frames n (ahead (suc j) y (taken_of (suc j) v es))) bu ∙ waits n j x (taken_of (suc j) v es) (ap (tick_from first.baud) e))
       (sends-on es ih s t j v st ph sh ew i lo hi (rw bu vb) on)
 
   -- at the tick j the shifter takes what the buffer x holds
-  loads : (es : List Event) → Claim es → (lo j : ℕ) (x : Buffer) (kept txc : Bool) (v : Usart) → Stays v → Phase first.baud j 0 → v.baud.left.0 ≡ ubrr
+  loads : (es : List Event) → Claim es → (lo j : ℕ) (x : Option ℕ) (kept txc : Bool) (v : Usart) → Stays v → Phase first.baud j 0 → v.baud.left.0 ≡ ubrr
       → v.sender ≡ moved_from f x kept txc → lo ≤ j → ValidBuffer f x → OnlyData v es → Clocks [] (Frames lo (ahead j x (taken_of (suc j) v es))) j v es
-  loads es ih lo j Vacant kept txc v st ph left eq h vb on =
-      let sh : v.sender.shifter ≡ Resting = ap (λ (y : Sender). y.shifter) eq in
-      let bu : v.sender.buffer ≡ Vacant = ap (λ (y : Sender). y.buffer) eq in
-      subst (λ (y : Buffer). Clocks [] (Frames lo (ahead (suc j) y (taken_of (suc j) v es))) j v es) bu
+  loads es ih lo j None kept txc v st ph left eq h vb on =
+      let sh : v.sender.shifter ≡ None = ap (λ (y : Sender). y.shifter) eq in
+      let bu : v.sender.buffer ≡ None = ap (λ (y : Sender). y.buffer) eq in
+      subst (λ (y : Option ℕ). Clocks [] (Frames lo (ahead (suc j) y (taken_of (suc j) v es))) j v es) bu
       (rests es ih lo j v st (rw left (phase-tick first.baud j ph)) sh h (rw bu tt) on)
-  loads es ih lo j (Full d) kept txc v st ph left eq h vb on =
+  loads es ih lo j (Some d) kept txc v st ph left eq h vb on =
       let ts : List Taken = taken_of (suc j) v es in
       let s : Sent = record { start = j; «data» = d } in
-      let sh : v.sender.shifter ≡ Sending (begun f d) = ap (λ (y : Sender). y.shifter) eq in
-      let bu : v.sender.buffer ≡ Vacant = ap (λ (y : Sender). y.buffer) eq in
+      let sh : v.sender.shifter ≡ Some (begun f d) = ap (λ (y : Sender). y.shifter) eq in
+      let bu : v.sender.buffer ≡ None = ap (λ (y : Sender). y.buffer) eq in
       let i : InBit (suc j) v.baud.left.0 0 0 j = record { next = omega arith; counter = omega arith; tick = omega (arith, s1); bit = omega arith } in
       let r : Clocks (s ∷ []) (Frames (j + N * P) ts) j v es =
-      subst (λ (y : Buffer). Clocks (s ∷ []) (Frames (j + N * P) (ahead (suc j) y ts)) j v es) bu
+      subst (λ (y : Option ℕ). Clocks (s ∷ []) (Frames (j + N * P) (ahead (suc j) y ts)) j v es) bu
       (sends-on es ih s (begun f d) j v st (rw left (phase-tick first.baud j ph)) sh refl i (omega arith) (omega (arith, p1)) (rw bu tt) on) in
       let now : tick_from first.baud (later_of lo j) ≡ j = let q : tick_from first.baud (later_of lo j) ≡ j + 0 = tick-next first.baud j 0 (later_of lo j) ph (omega arith) (omega arith) in omega arith in
       subst (λ (n : ℕ). Clocks [] (record { start = n; «data» = d } ∷ Frames (n + N * P) ts) j v es) (sym now) (
@@ -375,18 +373,18 @@ module _ (first : Usart) where
     valid = ok u.sender.buffer vb;
   })
     where
-      taken : (b : Buffer) (d : ℕ) → waiting (buffer_of b d) ≡ waiting b ++ pick (is_vacant b) (d ∷ []) []
-      taken Vacant d = refl
-      taken (Full e) d = refl
+      taken : (b : Option ℕ) (d : ℕ) → waiting (buffer_of b d) ≡ waiting b ++ pick (is_vacant b) (d ∷ []) []
+      taken None d = refl
+      taken (Some e) d = refl
 
-      ok : (b : Buffer) → ValidBuffer f b → ValidBuffer f (buffer_of b (data_of u.format (digit u.control.txb8 * 256 + x)))
-      ok Vacant v = rw st.format (mod-lt _ (pow_pos (data_bits f.size)))
-      ok (Full e) v = v
+      ok : (b : Option ℕ) → ValidBuffer f b → ValidBuffer f (buffer_of b (data_of u.format (digit u.control.txb8 * 256 + x)))
+      ok None v = rw st.format (mod-lt _ (pow_pos (data_bits f.size)))
+      ok (Some e) v = v
 
   acknowledged : (u : Usart) → ValidBuffer f u.sender.buffer → Aside u (settled u (vector_of u)) []
   unfolding vector_of
   acknowledged u vb =
-      pick_ind (λ (w : Written). Aside u (settled u w) []) (txc_requested u) _ _
+      pick_ind (λ (w : Result Usart Refusal). Aside u (settled u w) []) (txc_requested u) _ _
       (λ _. record { baud = refl; format = refl; control = refl; shifter = refl; buffer = sym (append-nil (waiting u.sender.buffer)); valid = vb })
       (λ _. same u u refl vb)
 
@@ -424,9 +422,9 @@ module _ (first : Usart) where
       subst (λ (ts : List Taken). Makes cur (Frames lo ts) j v es) e (ih cur lo j v sv (rw a.baud ph) (place-as u v j cur lo w a pl) a.valid on)
 
   -- the list's end: what is in the buffer has not begun
-  ends : (cur : List Sent) (lo j : ℕ) (u : Usart) (x : Buffer) → u.sender.buffer ≡ x → ValidBuffer f x → Makes cur (Frames lo (ahead j x [])) j u []
-  ends cur lo j u Vacant e vb = record { fits = tt; drives = tt; remains = sym (ap waiting e) }
-  ends cur lo j u (Full d) e vb =
+  ends : (cur : List Sent) (lo j : ℕ) (u : Usart) (x : Option ℕ) → u.sender.buffer ≡ x → ValidBuffer f x → Makes cur (Frames lo (ahead j x [])) j u []
+  ends cur lo j u None e vb = record { fits = tt; drives = tt; remains = sym (ap waiting e) }
+  ends cur lo j u (Some d) e vb =
       let s : Sent = record { start = tick_from first.baud (later_of lo j); «data» = d } in
       record {
         fits = (vb, tt);

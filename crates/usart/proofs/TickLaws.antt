@@ -8,14 +8,13 @@ use native.Mathlib.Nat.{div-eq_of_lt-le, lt-mul-div-succ, div-lt_iff_lt-mul, mul
 use native.Mathlib.Decide.{dec_lt}
 use native.Mathlib.Omega.{arith}
 use borrow.Author.Tests.{eq-eqb, ne_eqb}
+use Rattle.std.proofs.Common.{None, Some}
 use Rattle.frame.specs.declared.format.Size.TheVariants.{Five}
 use Rattle.frame.specs.declared.format.Parity.TheVariants.{Off}
 use Rattle.usart.specs.Baud.{ticks, left_of, baud_of}
 use Rattle.usart.specs.Receiver.{stopped}
 use Rattle.usart.specs.Sending.{taken_at, tick_from, frames_of}
 use Rattle.usart.specs.declared.baud.Baud.{Baud}
-use Rattle.usart.specs.declared.sender.Buffer.TheVariants.{Full}
-use Rattle.usart.specs.declared.sender.ShiftRegister.TheVariants.{Resting}
 
 module _ (b : Baud) where
   abbrev M : ℕ
@@ -121,7 +120,7 @@ example : frames_of (record {
   baud = record { ubrr = 2; left = record { 0 = 7 } };
   format = record { size = Five; parity = Off; usbs = true; u2x = true };
   control = record { rxcie = false; txcie = false; udrie = false; rxen = false; txen = true; txb8 = false };
-  sender = record { buffer = Full 21; shifter = Resting; txc = false };
+  sender = record { buffer = Some 21; shifter = None; txc = false };
   receiver = stopped;
 }) (taken_at 8 10 ∷ taken_at 395 3 ∷ []) ≡ record { start = 7; «data» = 21 } ∷ record { start = 199; «data» = 10 } ∷ record { start = 397; «data» = 3 } ∷ []
 unfolding tick_from

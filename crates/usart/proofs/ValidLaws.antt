@@ -7,6 +7,7 @@ use native.Mathlib.Omega.{arith}
 use lib.Dec.{eqb, ltb, lit<, lit≤}
 use lib.Pow.{pow_pos, pow_mono}
 use borrow.Author.Tests.{ltb-true}
+use Rattle.std.proofs.Common.{None, Option, Result, Some}
 use Rattle.choice.specs.Bit.{is_set}
 use Rattle.choice.specs.Pick.{pick, digit}
 use Rattle.choice.proofs.Picks.{pick_ind, clash}
@@ -30,11 +31,7 @@ use Rattle.usart.specs.Valid.{ValidBaud, ValidBuffer, ValidTransmission, ValidSh
 use Rattle.usart.specs.Valid.{ValidSampler, ValidFrame, ValidPlaces, ValidWaiting, ValidReceiver, is_in_shift, Valid}
 use Rattle.usart.specs.declared.baud.Clocks.{Clocks}
 use Rattle.usart.specs.declared.baud.Baud.{Baud}
-use Rattle.usart.specs.declared.sender.Buffer.{Buffer}
-use Rattle.usart.specs.declared.sender.Buffer.TheVariants.{Vacant, Full}
 use Rattle.usart.specs.declared.sender.Transmission.{Transmission}
-use Rattle.usart.specs.declared.sender.ShiftRegister.{ShiftRegister}
-use Rattle.usart.specs.declared.sender.ShiftRegister.TheVariants.{Resting, Sending}
 use Rattle.usart.specs.declared.sender.Sender.{Sender}
 use Rattle.usart.specs.declared.sampler.Sampler.{Sampler}
 use Rattle.usart.specs.declared.sampler.Sampler.TheVariants.{Idle, Receiving}
@@ -47,11 +44,11 @@ use Rattle.usart.specs.declared.queue.Queue.{Queue}
 use Rattle.usart.specs.declared.receiver.Receiver.{Receiver}
 use Rattle.usart.specs.declared.unit.Usart.{Usart}
 use Rattle.usart.specs.declared.write.Register.{Register}
-use Rattle.usart.specs.declared.write.Written.{Written}
 use Rattle.usart.proofs.ReadLaws.{each_read}
 use Rattle.usart.proofs.SamplerLaws.{ValidOutcome, valid-sampler}
 use Rattle.usart.proofs.WaitingLaws.{WaitingFor, none-waiting, idle-waiting, started_none, taken_none, waiting-tick}
 use Rattle.usart.proofs.WriteLaws.{Before, in_a, in_b, in_c, Timing, in_l, in_h, Writes, each_write}
+use Rattle.answer.specs.declared.Refusal.{Refusal}
 
 valid-baud : (b : Baud) → ValidBaud b → ValidBaud (baud_of b)
 unfolding left_of
@@ -66,9 +63,9 @@ unfolding left_of
 valid-counter b h = pick_ind (λ (c : Clocks). c.0 ≤ b.ubrr) (ticks b) _ _ (λ e. omega arith) (λ e. omega (arith, h e))
 
 module _ (f : Format) where
-  valid-moved : (b : Buffer) (kept txc : Bool) → ValidSender f (moved_from f b kept txc)
-  valid-moved Vacant kept txc = record { buffer = tt; shifter = tt }
-  valid-moved (Full d) kept txc = record { buffer = tt; shifter = record { word = word-again f d; bit = omega arith; sample = omega (arith, samples-range f) } }
+  valid-moved : (b : Option ℕ) (kept txc : Bool) → ValidSender f (moved_from f b kept txc)
+  valid-moved None kept txc = record { buffer = tt; shifter = tt }
+  valid-moved (Some d) kept txc = record { buffer = tt; shifter = record { word = word-again f d; bit = omega arith; sample = omega (arith, samples-range f) } }
 
   valid-stepped : (s : Sender) (t : Transmission) → ValidBuffer f s.buffer → ValidTransmission f t → ValidSender f (stepped_of f s t)
   unfolding stepped_of
@@ -82,9 +79,9 @@ module _ (f : Format) where
   pub valid-sender : (s : Sender) → ValidSender f s → ValidSender f (sender_of f s)
   valid-sender s v = by s.shifter v.shifter
     where
-      by : (x : ShiftRegister) → ValidShifter f x → ValidSender f (shifted_on f s x)
-      by Resting vs = valid-moved s.buffer s.txc s.txc
-      by (Sending t) vs = valid-stepped s t v.buffer vs
+      by : (x : Option Transmission) → ValidShifter f x → ValidSender f (shifted_on f s x)
+      by None vs = valid-moved s.buffer s.txc s.txc
+      by (Some t) vs = valid-stepped s t v.buffer vs
 
   data-lt : (x : ℕ) → data_of f x < 512
   data-lt x =
@@ -159,7 +156,7 @@ valid-taken (One a) v = tt
 valid-taken (Two a b) v = v.1
 valid-taken (Three a b c) v = v.1
 
-pub valid-read : (u : Usart) (r : Register) → Valid u → Valid (read_of u r).usart
+pub valid-read : (u : Usart) (r : Register) → Valid u → Valid (read_of u r).after
 valid-read u r v = each_read Valid u r (λ _. v)
     (λ _. record {
       baud = v.baud;
@@ -201,13 +198,13 @@ not-busy u e = by (is_vacant u.sender.buffer) (is_resting u.sender.shifter) refl
 clear-still : (u : Usart) → Clear u → is_in_shift u ≡ false
 clear-still u c = rw c.resting c.idle
 
-any-buffer : (f : Format) (b : Buffer) → is_vacant b ≡ true → ValidBuffer f b
-any-buffer f Vacant e = tt
-any-buffer f (Full d) e = clash e refl
+any-buffer : (f : Format) (b : Option ℕ) → is_vacant b ≡ true → ValidBuffer f b
+any-buffer f None e = tt
+any-buffer f (Some d) e = clash e refl
 
-any-shifter : (f : Format) (s : ShiftRegister) → is_resting s ≡ true → ValidShifter f s
-any-shifter f Resting e = tt
-any-shifter f (Sending t) e = clash e refl
+any-shifter : (f : Format) (s : Option Transmission) → is_resting s ≡ true → ValidShifter f s
+any-shifter f None e = tt
+any-shifter f (Some t) e = clash e refl
 
 any-sampler : (f : Format) (p : Sampler) → is_receiving p ≡ false → ValidSampler f p
 any-sampler f (Idle last) e = tt
@@ -217,8 +214,8 @@ any-sampler f (Receiving r) e = clash refl e
 valid-formatted : (u v : Usart) (busy : Bool) (g : Format) → Valid u → Valid v → (busy ≡ false → Clear v) → Valid (settled u (formatted_of v busy g))
 unfolding formatted_of
 valid-formatted u v busy g vu vv c =
-    pick_ind (λ (w : Written). Valid (settled u w)) busy _ _
-    (λ e. pick_ind (λ (w : Written). Valid (settled u w)) (eqb (settings_of g) (settings_of v.format)) _ _ (λ _. vv) (λ _. vu))
+    pick_ind (λ (w : Result Usart Refusal). Valid (settled u w)) busy _ _
+    (λ e. pick_ind (λ (w : Result Usart Refusal). Valid (settled u w)) (eqb (settings_of g) (settings_of v.format)) _ _ (λ _. vv) (λ _. vu))
     (λ e. record {
       baud = vv.baud;
       sender = record { buffer = any-buffer g v.sender.buffer (c e).vacant; shifter = any-shifter g v.sender.shifter (c e).resting };
@@ -258,13 +255,13 @@ idle-enabled before after r e =
     pick_ind F before _ _ (λ _. pick_ind F after _ _ (λ _. e) (λ _. refl)) (λ _. refl)
 
 -- a write of RXEN begins no frame
-still-enabled : (s : ShiftRegister) (before after : Bool) (r : Receiver) → pick (is_resting s) (is_receiving (enabled_of before after r).sampler) true ≡ true
+still-enabled : (s : Option Transmission) (before after : Bool) (r : Receiver) → pick (is_resting s) (is_receiving (enabled_of before after r).sampler) true ≡ true
     → pick (is_resting s) (is_receiving r.sampler) true ≡ true
 unfolding enabled_of
-still-enabled Resting before after r =
+still-enabled None before after r =
     let F : Receiver → Type 0 = λ q. is_receiving q.sampler ≡ true → is_receiving r.sampler ≡ true in
     pick_ind F before _ _ (λ _. pick_ind F after _ _ (λ _ e. e) (λ _ e. clash e refl)) (λ _ e. clash e refl)
-still-enabled (Sending t) before after r = λ _. refl
+still-enabled (Some t) before after r = λ _. refl
 
 -- what a write to A, B or C leaves, before the format is set
 module _ (u : Usart) (x : ℕ) (v : Valid u) where
@@ -294,7 +291,7 @@ module _ (u : Usart) (x : ℕ) (v : Valid u) where
 valid-timed : (u : Usart) (b : Baud) → Valid u → ValidBaud b → Valid (settled u (timed_of u b))
 unfolding timed_of
 valid-timed u b v vb =
-    pick_ind (λ (w : Written). Valid (settled u w)) (is_busy u) _ _ (λ _. v)
+    pick_ind (λ (w : Result Usart Refusal). Valid (settled u w)) (is_busy u) _ _ (λ _. v)
     (λ e. record {
       baud = vb;
       sender = v.sender;
@@ -321,9 +318,9 @@ valid-d u x v =
     })
     (λ _. v)
   where
-    by : (b : Buffer) → ValidBuffer u.format b → ValidBuffer u.format (buffer_of b (data_of u.format (digit u.control.txb8 * 256 + x)))
-    by Vacant vb = mod-lt _ (pow_pos (data_bits u.format.size))
-    by (Full e) vb = vb
+    by : (b : Option ℕ) → ValidBuffer u.format b → ValidBuffer u.format (buffer_of b (data_of u.format (digit u.control.txb8 * 256 + x)))
+    by None vb = mod-lt _ (pow_pos (data_bits u.format.size))
+    by (Some e) vb = vb
 
 -- a written value is a byte
 pub valid-write : (u : Usart) (r : Register) (x : ℕ) → x < 256 → Valid u → Valid (settled u (write_of u r x))
@@ -339,4 +336,4 @@ valid-write u r x h v = each_write {P = λ w. Valid (settled u w)} u x by r
 
 pub valid-vector : (u : Usart) → Valid u → Valid (settled u (vector_of u))
 unfolding vector_of
-valid-vector u v = pick_ind (λ (w : Written). Valid (settled u w)) (txc_requested u) _ _ (λ _. valid-acknowledged u v) (λ _. v)
+valid-vector u v = pick_ind (λ (w : Result Usart Refusal). Valid (settled u w)) (txc_requested u) _ _ (λ _. valid-acknowledged u v) (λ _. v)

@@ -2,25 +2,24 @@
 -- clock is a tick, most ticks only count one more of a bit: the sender within a bit, the receiver at samples that do
 -- not vote and are not a bit's last. RxD is not looked at in them, so many may pass at once. That they come to what
 -- `clock_of` says, one by one, is proved in `proofs/CountingLaws.antt`.
-use Rattle.std.specs.Prelude.{ℕ, ◌+◌, ◌-◌, Bool, eqb, ltb}
+use Rattle.std.specs.Prelude.{ℕ, ◌+◌, ◌-◌, Bool, eqb, ltb, None, Option, Some}
 use Rattle.choice.specs.Pick.{pick}
+use Rattle.advance.specs.declared.Passed.{Passed}
 use Rattle.frame.specs.Format.{samples, first_vote}
 use Rattle.frame.specs.declared.format.Format.{Format}
+use Rattle.span.specs.declared.Span.{Span}
 use Rattle.usart.specs.Baud.{ticks}
 use Rattle.usart.specs.Sender.{is_vacant, placed}
 use Rattle.usart.specs.Sampler.{cast_at}
 use Rattle.usart.specs.Write.{with_baud}
 use Rattle.usart.specs.declared.baud.Baud.{Baud}
 use Rattle.usart.specs.declared.sample.Sample.{Sample}
-use Rattle.usart.specs.declared.sender.Buffer.{Buffer}
-use Rattle.usart.specs.declared.sender.ShiftRegister.{ShiftRegister}
-use Rattle.usart.specs.declared.sender.ShiftRegister.TheVariants.{Resting, Sending}
 use Rattle.usart.specs.declared.sender.Sender.{Sender}
 use Rattle.usart.specs.declared.sampler.Sampler.{Sampler}
 use Rattle.usart.specs.declared.sampler.Sampler.TheVariants.{Idle, Receiving}
 use Rattle.usart.specs.declared.receiver.Receiver.{Receiver}
 use Rattle.usart.specs.declared.unit.Usart.{Usart}
-use Rattle.usart.specs.declared.count.Skipped.{Skipped}
+use Rattle.usart.specs.declared.sender.Transmission.{Transmission}
 
 unfoldable pub least : ℕ → ℕ → ℕ
 least a b = pick (ltb a b) a b
@@ -31,9 +30,9 @@ unlimited = 65535
 
 -- how many ticks the sender only counts: up to the bit's last; at rest none while a full buffer waits, since it moves
 -- at the next one
-unfoldable pub sender_quiet : Format → Buffer → ShiftRegister → ℕ
-sender_quiet f b Resting = pick (is_vacant b) unlimited 0
-sender_quiet f b (Sending t) = samples f - 1 - t.sample.0
+unfoldable pub sender_quiet : Format → Option ℕ → Option Transmission → ℕ
+sender_quiet f b None = pick (is_vacant b) unlimited 0
+sender_quiet f b (Some t) = samples f - 1 - t.sample.0
 
 -- of a bit with n samples taken: up to the one before the first vote, and from the last vote to the one before the
 -- bit's last
@@ -63,9 +62,9 @@ quiet_of u =
 abbrev pub later : Sample → ℕ → Sample
 later s n = record { 0 = s.0 + n }
 
-abbrev pub counted_shifter : ShiftRegister → ℕ → ShiftRegister
-counted_shifter Resting n = Resting
-counted_shifter (Sending t) n = Sending (placed t t.bit (t.sample.0 + n))
+abbrev pub counted_shifter : Option Transmission → ℕ → Option Transmission
+counted_shifter None n = None
+counted_shifter (Some t) n = Some (placed t t.bit (t.sample.0 + n))
 
 abbrev pub counted_sender : Sender → ℕ → Sender
 counted_sender s n = record { buffer = s.buffer; shifter = counted_shifter s.shifter n; txc = s.txc }
@@ -94,5 +93,5 @@ counted_of u n =
     (with_baud u (counted_baud u.baud n))
 
 -- at most n of them at once
-abbrev pub skipped_of : Usart → ℕ → Skipped
-skipped_of u n = record { usart = counted_of u (least (quiet_of u) n); clocks = record { 0 = least (quiet_of u) n } }
+abbrev pub skipped_of : Usart → ℕ → Passed Usart Span
+skipped_of u n = record { state = counted_of u (least (quiet_of u) n); steps = record { 0 = least (quiet_of u) n } }

@@ -1,13 +1,12 @@
 -- Lists of clocks and register accesses on the serial unit.
-use Rattle.std.specs.Prelude.{ℕ, suc, Bool, true, false, List, [], ◌∷◌, ◌++◌, ◌≡◌}
+use Rattle.std.specs.Prelude.{ℕ, suc, Bool, true, false, List, [], ◌∷◌, ◌++◌, ◌≡◌, Err, Ok, Result}
 use Rattle.usart.specs.Unit.{clock_of}
 use Rattle.usart.specs.Read.{read_of}
 use Rattle.usart.specs.Write.{write_of, vector_of}
 use Rattle.usart.specs.declared.unit.Usart.{Usart}
 use Rattle.usart.specs.declared.write.Register.{Register}
 use Rattle.usart.specs.declared.write.Register.TheVariants.{Ucsr0a, Ucsr0b, Ucsr0c, Ubrr0l, Ubrr0h, Udr0}
-use Rattle.usart.specs.declared.write.Written.{Written}
-use Rattle.usart.specs.declared.write.Written.TheVariants.{Done, Refused}
+use Rattle.answer.specs.declared.Refusal.{Refusal}
 
 -- a clock with its level on RxD, a write, a read, or vector 0 taken
 pub data Event : Type 0 where
@@ -17,23 +16,23 @@ pub data Event : Type 0 where
   vector : Event
 
 -- a refused access leaves the unit as it was
-abbrev pub settled : Usart → Written → Usart
-settled u (Done v) = v
-settled u (Refused r) = u
+abbrev pub settled : Usart → Result Usart Refusal → Usart
+settled u (Ok v) = v
+settled u (Err r) = u
 
 abbrev pub next_of : Usart → Event → Usart
 next_of u (clock rxd) = clock_of u rxd
 next_of u (write r v) = settled u (write_of u r v)
-next_of u (read r) = (read_of u r).usart
+next_of u (read r) = (read_of u r).after
 next_of u vector = settled u (vector_of u)
 
 abbrev pub final_of : Usart → List Event → Usart
 final_of u [] = u
 final_of u (e ∷ es) = final_of (next_of u e) es
 
-abbrev pub is_refused : Written → Bool
-is_refused (Done u) = false
-is_refused (Refused r) = true
+abbrev pub is_refused : Result Usart Refusal → Bool
+is_refused (Ok u) = false
+is_refused (Err r) = true
 
 abbrev pub is_udr0 : Register → Bool
 is_udr0 Ucsr0a = false

@@ -1,6 +1,6 @@
 -- One level of RxD held for many clocks: `held_of`, as many single ones. All else here is a means, no rule: the parts of
 -- the unit after many clocks or ticks, and the unit at rest, which they leave as it is but for the baud counter.
-use Rattle.std.specs.Prelude.{ℕ, ◌+◌, ◌*◌, ◌≤◌, Bool, true, false, not, ◌≡◌}
+use Rattle.std.specs.Prelude.{ℕ, ◌+◌, ◌*◌, Bool, true, false, not}
 use Rattle.choice.specs.Pick.{pick}
 use Rattle.choice.specs.Times.{times}
 use Rattle.frame.specs.declared.format.Format.{Format}
@@ -9,6 +9,8 @@ use Rattle.usart.specs.Sender.{is_vacant, is_resting, sender_of}
 use Rattle.usart.specs.Receiver.{listened_of}
 use Rattle.usart.specs.Unit.{clock_of}
 use Rattle.usart.specs.declared.baud.Baud.{Baud}
+use Rattle.usart.specs.declared.hold.Sending.{Sending}
+use Rattle.usart.specs.declared.hold.Listening.{Listening}
 use Rattle.usart.specs.declared.sender.Sender.{Sender}
 use Rattle.usart.specs.declared.sampler.Sampler.{Sampler}
 use Rattle.usart.specs.declared.sampler.Sampler.TheVariants.{Idle, Receiving}
@@ -56,8 +58,15 @@ is_at_rest u rxd = pick (sender_rests u.sender) (receiver_rests u.control.rxen u
 abbrev pub resting_from : Baud → ℕ
 resting_from b = b.left.0 + 415 * (b.ubrr + 1) + 1
 
--- k of n steps have been taken from x, at least one, and lead to y
-pub record PassedOn {A : Type 0} (step : A → A) (x : A) (n k : ℕ) (y : A) : Type 0 where
-  pub some : 1 ≤ k
-  pub few : k ≤ n
-  pub steps : y ≡ times step k x
+-- the settings stay beside the part, and a step is a tick with them
+abbrev pub with_sending : Sending → Sender → Sending
+with_sending x s = record { sender = s; format = x.format }
+
+abbrev pub sending_tick : Sending → Sending
+sending_tick x = with_sending x (sender_of x.format x.sender)
+
+abbrev pub with_listening : Listening → Receiver → Listening
+with_listening x r = record { receiver = r; rxen = x.rxen; format = x.format; rxd = x.rxd }
+
+abbrev pub listening_tick : Listening → Listening
+listening_tick x = with_listening x (listened_at x.rxen x.format x.rxd x.receiver)

@@ -8,9 +8,9 @@ use Rattle.usart.specs.Queue.{is_empty, oldest_of, without_oldest}
 use Rattle.usart.specs.Settings.{code_of, upm_of}
 use Rattle.usart.specs.declared.queue.Frame.{Frame}
 use Rattle.usart.specs.declared.unit.Usart.{Usart}
-use Rattle.usart.specs.declared.read.Reading.{Reading}
 use Rattle.usart.specs.declared.write.Register.{Register}
 use Rattle.usart.specs.declared.write.Register.TheVariants.{Ucsr0a, Ucsr0b, Ucsr0c, Ubrr0l, Ubrr0h, Udr0}
+use Rattle.answer.specs.declared.Reading.{Reading}
 
 -- the frame that the next UDR0 read takes away
 abbrev pub oldest : Usart → Frame
@@ -67,10 +67,10 @@ popped_of u = record {
 }
 
 -- only a read of UDR0 changes anything
-abbrev pub read_of : Usart → Register → Reading
-read_of u Ucsr0a = record { value = ucsr0a u; usart = u }
-read_of u Ucsr0b = record { value = ucsr0b u; usart = u }
-read_of u Ucsr0c = record { value = ucsr0c u; usart = u }
-read_of u Ubrr0l = record { value = ubrr0l u; usart = u }
-read_of u Ubrr0h = record { value = ubrr0h u; usart = u }
-read_of u Udr0 = record { value = udr0 u; usart = popped_of u }
+abbrev pub read_of : Usart → Register → Reading Usart
+read_of u Ucsr0a = record { value = ucsr0a u; after = u }
+read_of u Ucsr0b = record { value = ucsr0b u; after = u }
+read_of u Ucsr0c = record { value = ucsr0c u; after = u }
+read_of u Ubrr0l = record { value = ubrr0l u; after = u }
+read_of u Ubrr0h = record { value = ubrr0h u; after = u }
+read_of u Udr0 = record { value = udr0 u; after = popped_of u }

@@ -1,7 +1,7 @@
 -- What a write of a serial register is refused for: for each number its condition, by itself (document 01, 'Numbers the
 -- rig sees' and 'Registers and their writes'). The lowest place in the order 2, 3, 4 wins; a number's condition does
 -- not look at the others.
-use Rattle.std.specs.Prelude.{ℕ, ◌+◌, ◌*◌, ◌/◌, ◌%◌, Bool, true, false, not, ◌&&◌, ◌||◌, eqb}
+use Rattle.std.specs.Prelude.{ℕ, ◌+◌, ◌*◌, ◌/◌, ◌%◌, Bool, true, false, not, ◌&&◌, ◌||◌, eqb, Err, Ok, Result}
 use Rattle.answer.specs.Number.{number_of}
 use Rattle.choice.specs.Pick.{digit}
 use Rattle.usart.specs.Unit.{is_busy}
@@ -9,13 +9,12 @@ use Rattle.usart.specs.Settings.{code_of, size_of, is_known, upm_of}
 use Rattle.usart.specs.declared.unit.Usart.{Usart}
 use Rattle.usart.specs.declared.write.Register.{Register}
 use Rattle.usart.specs.declared.write.Register.TheVariants.{Ucsr0a, Ucsr0b, Ucsr0c, Ubrr0l, Ubrr0h, Udr0}
-use Rattle.usart.specs.declared.write.Written.{Written}
-use Rattle.usart.specs.declared.write.Written.TheVariants.{Done, Refused}
+use Rattle.answer.specs.declared.Refusal.{Refusal}
 
 -- 0: done
-abbrev pub number_in : Written → ℕ
-number_in (Done u) = 0
-number_in (Refused r) = number_of r
+abbrev pub number_in : Result Usart Refusal → ℕ
+number_in (Ok u) = 0
+number_in (Err r) = number_of r
 
 abbrev pub is_size : ℕ → Bool
 is_size n = is_known (size_of n)

@@ -1,29 +1,25 @@
 -- The sender (document 01, 'Baud clock, sender').
-use Rattle.std.specs.Prelude.{ℕ, ◌+◌, ◌-◌, Bool, true, false, ltb}
+use Rattle.std.specs.Prelude.{ℕ, ◌+◌, ◌-◌, Bool, true, false, ltb, None, Option, Some}
 use Rattle.choice.specs.Pick.{pick}
 use Rattle.frame.specs.Format.{samples, word_bits, last_bit}
 use Rattle.frame.specs.Word.{word_of, frame_bit}
 use Rattle.frame.specs.declared.format.Format.{Format}
-use Rattle.usart.specs.declared.sender.Buffer.{Buffer}
-use Rattle.usart.specs.declared.sender.Buffer.TheVariants.{Vacant, Full}
 use Rattle.usart.specs.declared.sender.Transmission.{Transmission}
-use Rattle.usart.specs.declared.sender.ShiftRegister.{ShiftRegister}
-use Rattle.usart.specs.declared.sender.ShiftRegister.TheVariants.{Resting, Sending}
 use Rattle.usart.specs.declared.sender.Sender.{Sender}
 
 -- UDRE
-abbrev pub is_vacant : Buffer → Bool
-is_vacant Vacant = true
-is_vacant (Full d) = false
+abbrev pub is_vacant : Option ℕ → Bool
+is_vacant None = true
+is_vacant (Some d) = false
 
-abbrev pub is_resting : ShiftRegister → Bool
-is_resting Resting = true
-is_resting (Sending t) = false
+abbrev pub is_resting : Option Transmission → Bool
+is_resting None = true
+is_resting (Some t) = false
 
 -- the buffer takes data where UDRE is set; any other is ignored
-abbrev pub buffer_of : Buffer → ℕ → Buffer
-buffer_of Vacant d = Full d
-buffer_of (Full e) d = Full e
+abbrev pub buffer_of : Option ℕ → ℕ → Option ℕ
+buffer_of None d = Some d
+buffer_of (Some e) d = Some e
 
 abbrev pub filled_of : Sender → ℕ → Sender
 filled_of s d = record { buffer = buffer_of s.buffer d; shifter = s.shifter; txc = s.txc }
@@ -34,16 +30,16 @@ begun f d = record { word = word_of f d; bit = 0; sample = record { 0 = 0 } }
 
 -- a full buffer moves to the shifter, UDRE is set and the start bit begins; from an empty one the shifter is at rest
 -- with TXC as given
-abbrev pub moved_from : Format → Buffer → Bool → Bool → Sender
-moved_from f Vacant kept txc = record { buffer = Vacant; shifter = Resting; txc = txc }
-moved_from f (Full d) kept txc = record { buffer = Vacant; shifter = Sending (begun f d); txc = kept }
+abbrev pub moved_from : Format → Option ℕ → Bool → Bool → Sender
+moved_from f None kept txc = record { buffer = None; shifter = None; txc = txc }
+moved_from f (Some d) kept txc = record { buffer = None; shifter = Some (begun f d); txc = kept }
 
 abbrev pub moved_of : Format → Sender → Bool → Sender
 moved_of f s txc = moved_from f s.buffer s.txc txc
 
 -- the frame in the shifter at another place
 abbrev pub at_of : Sender → Transmission → Sender
-at_of s t = record { buffer = s.buffer; shifter = Sending t; txc = s.txc }
+at_of s t = record { buffer = s.buffer; shifter = Some t; txc = s.txc }
 
 abbrev pub placed : Transmission → ℕ → ℕ → Transmission
 placed t b n = record { word = t.word; bit = b; sample = record { 0 = n } }
@@ -56,17 +52,17 @@ stepped_of f s t =
     (moved_of f s true))
 
 -- a tick
-abbrev pub shifted_on : Format → Sender → ShiftRegister → Sender
-shifted_on f s Resting = moved_of f s s.txc
-shifted_on f s (Sending t) = stepped_of f s t
+abbrev pub shifted_on : Format → Sender → Option Transmission → Sender
+shifted_on f s None = moved_of f s s.txc
+shifted_on f s (Some t) = stepped_of f s t
 
 abbrev pub sender_of : Format → Sender → Sender
 sender_of f s = shifted_on f s s.shifter
 
 -- the level of TxD
-abbrev pub txd_of : Format → ShiftRegister → Bool
-txd_of f Resting = true
-txd_of f (Sending t) = frame_bit (word_bits f) t.word t.bit
+abbrev pub txd_of : Format → Option Transmission → Bool
+txd_of f None = true
+txd_of f (Some t) = frame_bit (word_bits f) t.word t.bit
 
 -- TXC cleared
 abbrev pub acknowledged_of : Sender → Sender

@@ -1,5 +1,5 @@
 -- The sender's line at the serial unit.
-use Rattle.std.specs.Prelude.{ℕ, suc, ◌+◌, ◌-◌, ◌*◌, ◌/◌, Bool, true, List, [], ◌∷◌, ◌++◌, map, ◌≡◌, leb, length}
+use Rattle.std.specs.Prelude.{ℕ, suc, ◌+◌, ◌-◌, ◌*◌, ◌/◌, Bool, true, List, [], ◌∷◌, ◌++◌, map, ◌≡◌, leb, length, None, Option, Some}
 use Rattle.choice.specs.Pick.{pick, digit}
 use Rattle.frame.specs.Format.{word_bits, last_bit}
 use Rattle.frame.specs.Word.{data_of}
@@ -9,15 +9,12 @@ use Rattle.usart.specs.Event.{Event, clock, write, read, vector, next_of, is_udr
 use Rattle.usart.specs.Line.{Sent, line_level, Fits, Spaced}
 use Rattle.usart.specs.Valid.{ValidBuffer}
 use Rattle.usart.specs.declared.baud.Baud.{Baud}
-use Rattle.usart.specs.declared.sender.Buffer.{Buffer}
-use Rattle.usart.specs.declared.sender.Buffer.TheVariants.{Vacant, Full}
-use Rattle.usart.specs.declared.sender.ShiftRegister.TheVariants.{Resting}
 use Rattle.usart.specs.declared.unit.Usart.{Usart}
 
 -- enabled, nothing in shift; the buffer may hold a frame; any baud counter
 pub record ReadyToSend (u : Usart) : Type 0 where
   pub enabled : u.control.txen ≡ true
-  pub resting : u.sender.shifter ≡ Resting
+  pub resting : u.sender.shifter ≡ None
 
 -- so at first, and no serial register but UDR0 written
 pub record MaySend (u : Usart) (es : List Event) : Type 0 where
@@ -26,9 +23,9 @@ pub record MaySend (u : Usart) (es : List Event) : Type 0 where
   pub only_data : OnlyData u es
 
 -- the data in the buffer
-abbrev pub waiting : Buffer → List ℕ
-waiting Vacant = []
-waiting (Full d) = d ∷ []
+abbrev pub waiting : Option ℕ → List ℕ
+waiting None = []
+waiting (Some d) = d ∷ []
 
 -- the data that a write to UDR0 gives the buffer, with TXB8 as it then stands; one that finds UDRE clear is ignored
 abbrev pub accepted_by : Usart → Event → List ℕ
@@ -104,7 +101,7 @@ data_in s = s.«data»
 -- TxD, in the outputs, is a line with Q = 1 and P = S·(UBRR + 1), of exactly the frames that the buffer held at first
 -- or took, in order, each begun at its tick. The list's end may cut the last one begun, or leave in the buffer one
 -- whose tick has not come, and no other
-pub record Sends (u : Usart) (taken : List Taken) (outputs : List ℕ) (left : Buffer) : Type 0 where
+pub record Sends (u : Usart) (taken : List Taken) (outputs : List ℕ) (left : Option ℕ) : Type 0 where
   pub fits : Fits u.format (frames_of u taken)
   pub spaced : Spaced (word_bits u.format) (bit_clocks u) 1 (frames_of u taken)
   pub drives : Drives (line_level u.format (bit_clocks u) 1 (frames_of u taken)) 0 outputs

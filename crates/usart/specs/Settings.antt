@@ -1,14 +1,12 @@
 -- The format as the registers' bits give it (document 01, 'Registers and their writes'; bit places and size codes by
 -- source 004).
-use Rattle.std.specs.Prelude.{ℕ, ◌+◌, ◌*◌, Bool, true, false, eqb}
+use Rattle.std.specs.Prelude.{ℕ, ◌+◌, ◌*◌, Bool, true, false, eqb, None, Option, Some}
 use Rattle.choice.specs.Pick.{pick, digit}
 use Rattle.frame.specs.declared.format.Size.{Size}
 use Rattle.frame.specs.declared.format.Size.TheVariants.{Five, Six, Seven, Eight, Nine}
 use Rattle.frame.specs.declared.format.Parity.{Parity}
 use Rattle.frame.specs.declared.format.Parity.TheVariants.{Off, Even, Odd}
 use Rattle.frame.specs.declared.format.Format.{Format}
-use Rattle.usart.specs.declared.settings.Coded.{Coded}
-use Rattle.usart.specs.declared.settings.Coded.TheVariants.{Known, Reserved}
 
 -- the size code UCSZ2:0 must be 000, 001, 010, 011 or 111 (5, 6, 7, 8, 9 bits)
 abbrev pub code_of : Size → ℕ
@@ -18,18 +16,18 @@ code_of Seven = 2
 code_of Eight = 3
 code_of Nine = 7
 
-unfoldable pub size_of : ℕ → Coded
+unfoldable pub size_of : ℕ → Option Size
 size_of n =
-    pick (eqb n (code_of Five)) (Known Five)
-    (pick (eqb n (code_of Six)) (Known Six)
-    (pick (eqb n (code_of Seven)) (Known Seven)
-    (pick (eqb n (code_of Eight)) (Known Eight)
-    (pick (eqb n (code_of Nine)) (Known Nine)
-    Reserved))))
+    pick (eqb n (code_of Five)) (Some Five)
+    (pick (eqb n (code_of Six)) (Some Six)
+    (pick (eqb n (code_of Seven)) (Some Seven)
+    (pick (eqb n (code_of Eight)) (Some Eight)
+    (pick (eqb n (code_of Nine)) (Some Nine)
+    None))))
 
-abbrev pub is_known : Coded → Bool
-is_known (Known z) = true
-is_known Reserved = false
+abbrev pub is_known : Option Size → Bool
+is_known (Some z) = true
+is_known None = false
 
 -- UPM 00 is off, 10 even, 11 odd; 01 is refused
 abbrev pub upm_of : Parity → ℕ

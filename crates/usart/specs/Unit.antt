@@ -1,5 +1,5 @@
 -- The serial unit at reset, at a clock, its output and its requests.
-use Rattle.std.specs.Prelude.{ℕ, ◌+◌, ◌*◌, Bool, true, false, not}
+use Rattle.std.specs.Prelude.{ℕ, ◌+◌, ◌*◌, Bool, true, false, not, None}
 use Rattle.choice.specs.Pick.{pick, digit}
 use Rattle.frame.specs.Format.{samples}
 use Rattle.frame.specs.declared.format.Format.{Format}
@@ -10,8 +10,6 @@ use Rattle.usart.specs.Sender.{is_vacant, is_resting, sender_of, txd_of}
 use Rattle.usart.specs.Sampler.{is_receiving}
 use Rattle.usart.specs.Queue.{is_empty}
 use Rattle.usart.specs.Receiver.{listened_of, stopped}
-use Rattle.usart.specs.declared.sender.Buffer.TheVariants.{Vacant}
-use Rattle.usart.specs.declared.sender.ShiftRegister.TheVariants.{Resting}
 use Rattle.usart.specs.declared.unit.Usart.{Usart}
 
 -- after reset: 8 data bits, no parity, 1 stop bit (UCSR0C 0x06), UDRE (UCSR0A 0x20), the rest 0
@@ -20,7 +18,7 @@ reset_usart = record {
   baud = record { ubrr = 0; left = record { 0 = 0 } };
   format = record { size = Eight; parity = Off; usbs = false; u2x = false };
   control = record { rxcie = false; txcie = false; udrie = false; rxen = false; txen = false; txb8 = false };
-  sender = record { buffer = Vacant; shifter = Resting; txc = false };
+  sender = record { buffer = None; shifter = None; txc = false };
   receiver = stopped;
 }
 

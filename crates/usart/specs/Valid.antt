@@ -1,6 +1,6 @@
 -- The ranges of the unit's fields. Frames held for reading, or waiting, outlive a change of format, so their range is
 -- not bound by the present one; what the sender holds and a frame under way in the receiver are.
-use Rattle.std.specs.Prelude.{ℕ, ◌+◌, ◌-◌, ◌%◌, ◌^◌, ◌<◌, ◌≤◌, Bool, true, false, [], ◌≡◌, ltb}
+use Rattle.std.specs.Prelude.{ℕ, ◌+◌, ◌-◌, ◌%◌, ◌^◌, ◌<◌, ◌≤◌, Bool, true, false, [], ◌≡◌, ltb, None, Option, Some}
 use Rattle.choice.specs.Pick.{pick}
 use Rattle.frame.specs.Format.{samples, first_vote, data_bits, word_bits, last_bit}
 use Rattle.frame.specs.Word.{word_of}
@@ -10,11 +10,7 @@ use Rattle.usart.specs.Sampler.{is_receiving, most_votes}
 use Rattle.usart.specs.Queue.{waiting_in}
 use Rattle.usart.specs.Receiver.{stopped}
 use Rattle.usart.specs.declared.baud.Baud.{Baud}
-use Rattle.usart.specs.declared.sender.Buffer.{Buffer}
-use Rattle.usart.specs.declared.sender.Buffer.TheVariants.{Vacant, Full}
 use Rattle.usart.specs.declared.sender.Transmission.{Transmission}
-use Rattle.usart.specs.declared.sender.ShiftRegister.{ShiftRegister}
-use Rattle.usart.specs.declared.sender.ShiftRegister.TheVariants.{Resting, Sending}
 use Rattle.usart.specs.declared.sender.Sender.{Sender}
 use Rattle.usart.specs.declared.sampler.Reception.{Reception}
 use Rattle.usart.specs.declared.sampler.Sampler.{Sampler}
@@ -31,9 +27,9 @@ pub record ValidBaud (b : Baud) : Type 0 where
   pub left : b.left.0 < 4096
 
 -- data bits only
-abbrev pub ValidBuffer : Format → Buffer → Type 0
-ValidBuffer f Vacant = Unit {0}
-ValidBuffer f (Full d) = d < 2 ^ data_bits f.size
+abbrev pub ValidBuffer : Format → Option ℕ → Type 0
+ValidBuffer f None = Unit {0}
+ValidBuffer f (Some d) = d < 2 ^ data_bits f.size
 
 -- the word is that of its data: of D bits, its parity bit right
 pub record ValidTransmission (f : Format) (t : Transmission) : Type 0 where
@@ -41,9 +37,9 @@ pub record ValidTransmission (f : Format) (t : Transmission) : Type 0 where
   pub bit : t.bit ≤ last_bit f
   pub sample : t.sample.0 < samples f
 
-abbrev pub ValidShifter : Format → ShiftRegister → Type 0
-ValidShifter f Resting = Unit {0}
-ValidShifter f (Sending t) = ValidTransmission f t
+abbrev pub ValidShifter : Format → Option Transmission → Type 0
+ValidShifter f None = Unit {0}
+ValidShifter f (Some t) = ValidTransmission f t
 
 pub record ValidSender (f : Format) (s : Sender) : Type 0 where
   pub buffer : ValidBuffer f s.buffer

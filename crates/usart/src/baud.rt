@@ -2,17 +2,19 @@ ghost use Rattle.std.specs.Prelude.{◌≡◌};
 ghost use Rattle.usart.specs.Baud.{left_of, ticks, baud_of, loaded_baud};
 
 // Clocks left in the baud counter until the next tick.
-#[derive(Clone, Copy)]
+// A type of its own, beside `Sample`, `Ticks` and `Span`: each counts in another unit, and none is taken for another.
+#[derive(Clone, Copy, Default)]
 pub struct Clocks(pub u16);
 
 // UBRR and the counter that it loads.
-#[derive(Clone, Copy)]
+#[derive(Clone, Copy, Default)]
 pub struct Baud {
     pub ubrr: u16,
     pub left: Clocks,
 }
 
 impl Clocks {
+    #[tactic(auto, unfolding(crate::specs::Baud::left_of))]
     pub fn next(self, ubrr: u16) -> Clocks
         ensures { result ≡ left_of self ubrr }
     {
@@ -36,8 +38,8 @@ impl Baud {
         ensures { result ≡ baud_of self }
     {
         Baud {
-            ubrr: self.ubrr,
             left: self.left.next(self.ubrr),
+            ..self
         }
     }
 
@@ -46,7 +48,7 @@ impl Baud {
         ensures { result ≡ loaded_baud ubrr }
     {
         Baud {
-            ubrr: ubrr,
+            ubrr,
             left: Clocks(ubrr),
         }
     }

@@ -1,8 +1,7 @@
 // One level of RxD held for many clocks. Sender and receiver go by the ticks in them, many at once where these only
 // count; a part that is at rest stays as it is, however many there are.
-ghost use Rattle.std.specs.Prelude.{◌≡◌, ◌≤◌};
-ghost use Rattle.usart.specs.Sender.{sender_of};
-ghost use Rattle.usart.specs.Holding.{held_of, held_sender, listened_at, held_receiver, passed_baud, PassedOn};
+ghost use Rattle.std.specs.Prelude.{◌≡◌};
+ghost use Rattle.usart.specs.Holding.{held_of, held_sender, held_receiver, passed_baud, sending_tick, listening_tick};
 ghost use Rattle.usart.specs.Holding.{sender_rests, sampler_rests, receiver_rests};
 
 use crate::baud::{Baud, Clocks};
@@ -11,20 +10,24 @@ use crate::sampler::Sampler;
 use crate::sender::Sender;
 use crate::tick::Ticks;
 use crate::unit::Usart;
+use advance::{Passed, Steps, hold};
 use frame::Format;
 use span::Span;
 
-// A part after some ticks, and how many they were.
+// A sender and the format of its frames: a step is a tick.
 #[derive(Clone, Copy)]
-pub struct SenderPassed {
-    pub sender: Sender,
-    pub ticks: Ticks,
+struct Sending {
+    sender: Sender,
+    format: Format,
 }
 
+// A receiver with its settings and the level that is held: a step is a tick that samples it.
 #[derive(Clone, Copy)]
-pub struct ReceiverPassed {
-    pub receiver: Receiver,
-    pub ticks: Ticks,
+struct Listening {
+    receiver: Receiver,
+    rxen: bool,
+    format: Format,
+    rxd: bool,
 }
 
 impl Baud {
@@ -36,14 +39,15 @@ impl Baud {
         let left = self.left.0 as usize;
         let ubrr = self.ubrr as usize;
         if left < n.0 {
-            return Baud {
-                ubrr: self.ubrr,
+            Baud {
                 left: Clocks((ubrr - (n.0 - left - 1) % (ubrr + 1)) as u16),
-            };
-        }
-        Baud {
-            ubrr: self.ubrr,
-            left: Clocks((left - n.0) as u16),
+                ..self
+            }
+        } else {
+            Baud {
+                left: Clocks((left - n.0) as u16),
+                ..self
+            }
         }
     }
 }
@@ -53,47 +57,46 @@ impl Sender {
     fn rests(self) -> bool
         ensures { result ≡ sender_rests self }
     {
-        if self.vacant() {
-            return self.resting();
-        }
-        false
+        self.vacant() && self.resting()
     }
 
-    // One tick, or as many of n as only count.
-    fn passed(self, f: Format, n: Ticks) -> SenderPassed
-        requires { 1 ≤ n.0 }
-        ensures { PassedOn (sender_of f) self n.0 result.ticks.0 result.sender }
+    fn hold(self, format: Format, n: Ticks) -> Sender
+        ensures { result ≡ held_sender format self n.0 }
     {
-        let k = self.quiet(f).least(n);
-        if k.0 == 0 {
-            let s = self.tick(f);
-            return SenderPassed {
-                sender: s,
-                ticks: Ticks(1),
-            };
-        }
-        let s = self.counted(f, k);
-        SenderPassed {
-            sender: s,
-            ticks: k,
+        let sending = Sending {
+            sender: self,
+            format,
+        };
+        hold(sending, n.0).sender
+    }
+}
+
+impl Steps for Sending {
+    ghost step = { sending_tick };
+
+    fn rests(self) -> bool {
+        self.sender.rests()
+    }
+
+    fn stepped(self) -> Sending {
+        Sending {
+            sender: self.sender.tick(self.format),
+            ..self
         }
     }
 
-    fn hold(self, f: Format, n: Ticks) -> Sender
-        ensures { result ≡ held_sender f self n.0 }
-    {
-        let mut state = self;
-        let mut left = n.0;
-        while 0 < left {
-            if state.rests() {
-                return state;
-            }
-            let t = Ticks(left);
-            let p = state.passed(f, t);
-            state = p.sender;
-            left -= p.ticks.0;
+    fn counted(self, n: usize) -> Option<Passed<Sending, usize>> {
+        let ticks = self.sender.quiet(self.format).min(Ticks(n));
+        if ticks.0 == 0 {
+            return None;
         }
-        state
+        Some(Passed {
+            state: Sending {
+                sender: self.sender.counted(self.format, ticks),
+                ..self
+            },
+            steps: ticks.0,
+        })
     }
 }
 
@@ -102,7 +105,7 @@ impl Sampler {
         ensures { result ≡ sampler_rests self rxd }
     {
         match self {
-            Sampler::Idle(last) => { if last { rxd } else { !rxd } }
+            Sampler::Idle(last) => last == rxd,
             Sampler::Receiving(_) => false,
         }
     }
@@ -113,44 +116,49 @@ impl Receiver {
     fn rests(self, rxen: bool, rxd: bool) -> bool
         ensures { result ≡ receiver_rests rxen self rxd }
     {
-        let s = self.sampler;
-        if rxen { s.rests(rxd) } else { true }
+        !rxen || self.sampler.rests(rxd)
     }
 
-    fn passed(self, rxen: bool, f: Format, rxd: bool, n: Ticks) -> ReceiverPassed
-        requires { 1 ≤ n.0 }
-        ensures { PassedOn (listened_at rxen f rxd) self n.0 result.ticks.0 result.receiver }
+    fn hold(self, rxen: bool, format: Format, rxd: bool, n: Ticks) -> Receiver
+        ensures { result ≡ held_receiver rxen format self rxd n.0 }
     {
-        let k = self.quiet(rxen, f).least(n);
-        if k.0 == 0 {
-            let r = self.listened(rxen, f, rxd);
-            return ReceiverPassed {
-                receiver: r,
-                ticks: Ticks(1),
-            };
-        }
-        let r = self.counted(rxen, f, k);
-        ReceiverPassed {
-            receiver: r,
-            ticks: k,
+        let listening = Listening {
+            receiver: self,
+            rxen,
+            format,
+            rxd,
+        };
+        hold(listening, n.0).receiver
+    }
+}
+
+impl Steps for Listening {
+    ghost step = { listening_tick };
+
+    fn rests(self) -> bool {
+        self.receiver.rests(self.rxen, self.rxd)
+    }
+
+    fn stepped(self) -> Listening {
+        Listening {
+            receiver: self.receiver.listened(self.rxen, self.format, self.rxd),
+            ..self
         }
     }
 
-    fn hold(self, rxen: bool, f: Format, rxd: bool, n: Ticks) -> Receiver
-        ensures { result ≡ held_receiver rxen f self rxd n.0 }
-    {
-        let mut state = self;
-        let mut left = n.0;
-        while 0 < left {
-            if state.rests(rxen, rxd) {
-                return state;
-            }
-            let t = Ticks(left);
-            let p = state.passed(rxen, f, rxd, t);
-            state = p.receiver;
-            left -= p.ticks.0;
+    // As for `Sending`: each says its own ticks, and to hand these to one function would take more lines than it saves.
+    fn counted(self, n: usize) -> Option<Passed<Listening, usize>> {
+        let ticks = self.receiver.quiet(self.rxen, self.format).min(Ticks(n));
+        if ticks.0 == 0 {
+            return None;
         }
-        state
+        Some(Passed {
+            state: Listening {
+                receiver: self.receiver.counted(self.rxen, self.format, ticks),
+                ..self
+            },
+            steps: ticks.0,
+        })
     }
 }
 
@@ -159,18 +167,14 @@ impl Usart {
     pub fn hold(self, rxd: bool, n: Span) -> Usart
         ensures { result ≡ held_of self rxd n.0 }
     {
-        let f = self.format;
-        let c = self.control;
-        let k = self.baud.ticks_in(n);
-        let b = self.baud.passed(n);
-        let s = self.sender.hold(f, k);
-        let r = self.receiver.hold(c.rxen, f, rxd, k);
+        let ticks = self.baud.ticks_in(n);
         Usart {
-            baud: b,
-            format: f,
-            control: c,
-            sender: s,
-            receiver: r,
+            baud: self.baud.passed(n),
+            sender: self.sender.hold(self.format, ticks),
+            receiver: self
+                .receiver
+                .hold(self.control.rxen, self.format, rxd, ticks),
+            ..self
         }
     }
 }

@@ -1,6 +1,6 @@
 ghost use Rattle.std.specs.Prelude.{◌≡◌};
 ghost use Rattle.usart.specs.Sampler.{idle_of, cast_of, next_bit_of, shifted_of, tally_of, decided_of, voted_of};
-ghost use Rattle.usart.specs.Sampler.{sampled_of, sampler_of, is_receiving};
+ghost use Rattle.usart.specs.Sampler.{sampled_of, sampler_of, is_receiving, still};
 
 use crate::sample::Sample;
 use frame::Format;
@@ -10,7 +10,7 @@ const MOST_VOTES: u8 = 12;
 
 // A frame under way: the bit that is being sampled (0 is the start bit), samples of it taken, its first two votes until
 // the third decides it, the bits received so far, shifted in at the top, and the votes so far that were split.
-#[derive(Clone, Copy)]
+#[derive(Clone, Copy, PartialEq, Eq, Default)]
 pub struct Reception {
     pub bit: u8,
     pub sample: Sample,
@@ -20,6 +20,7 @@ pub struct Reception {
     pub splits: u8,
 }
 
+// Not an Option of a reception: both states hold data.
 #[derive(Clone, Copy)]
 pub enum Sampler {
     // No frame under way; the last sample is remembered.
@@ -28,14 +29,14 @@ pub enum Sampler {
     Receiving(Reception),
 }
 
-// What a sample leads to.
+// What a sample leads to. Nothing is one outcome of three, so an Option around the other two would be no plainer.
 #[derive(Clone, Copy)]
 pub enum Outcome {
     Nothing,
     // A start bit is accepted.
     Started,
     // A frame completes, with its word, the vote on its stop bit and how many of its votes were split.
-    Complete(u16, bool, u8),
+    Complete { word: u16, stop: bool, splits: u8 },
 }
 
 #[derive(Clone, Copy)]
@@ -44,163 +45,157 @@ pub struct Sampled {
     pub outcome: Outcome,
 }
 
+impl Sampled {
+    // No start bit is accepted and no frame completes.
+    fn still(sampler: Sampler) -> Sampled
+        ensures { result ≡ still sampler }
+    {
+        Sampled {
+            sampler,
+            outcome: Outcome::Nothing,
+        }
+    }
+}
+
+#[tactic(auto, unfolding(crate::specs::Sampler::idle_of))]
 fn idle(last: bool, rxd: bool) -> Sampled
     ensures { result ≡ idle_of last rxd }
 {
-    if last {
-        if rxd {
-            return Sampled {
-                sampler: Sampler::Idle(rxd),
-                outcome: Outcome::Nothing,
-            };
-        }
-        let r = Reception {
-            bit: 0,
+    if last && !rxd {
+        Sampled::still(Sampler::Receiving(Reception {
             sample: Sample(1),
-            first: false,
-            second: false,
-            word: 0,
-            splits: 0,
-        };
-        return Sampled {
-            sampler: Sampler::Receiving(r),
-            outcome: Outcome::Nothing,
-        };
-    }
-    Sampled {
-        sampler: Sampler::Idle(rxd),
-        outcome: Outcome::Nothing,
+            ..Reception::default()
+        }))
+    } else {
+        Sampled::still(Sampler::Idle(rxd))
     }
 }
 
 // One more vote: a split one is counted. (No frame has more votes than that: `below-most`, proofs/TallyLaws.antt.)
+#[tactic(auto, unfolding(crate::specs::Sampler::tally_of))]
 fn tally(splits: u8, unanimous: bool) -> u8
     ensures { result ≡ tally_of splits unanimous }
 {
-    if unanimous {
-        return splits;
+    if !unanimous && splits < MOST_VOTES {
+        splits + 1
+    } else {
+        splits
     }
-    if splits < MOST_VOTES {
-        return splits + 1;
-    }
-    splits
 }
 
+// The format is the unit's and the level the clock's: they come together to a sample, but nothing holds both.
 impl Reception {
     // Sample n is taken; the first two voting ones are kept.
-    fn cast(mut self, f: Format, n: Sample, rxd: bool) -> Reception
+    #[tactic(auto, unfolding(crate::specs::Sampler::cast_of))]
+    fn cast(self, f: Format, n: Sample, rxd: bool) -> Reception
         ensures { result ≡ cast_of f self n rxd }
     {
-        let vote = f.first_vote();
-        self.sample = n;
-        if n.0 == vote {
-            self.first = rxd;
-            return self;
+        let taken = Reception { sample: n, ..self };
+        if n.0 == f.first_vote() {
+            Reception {
+                first: rxd,
+                ..taken
+            }
+        } else if n.0 == f.first_vote() + 1 {
+            Reception {
+                second: rxd,
+                ..taken
+            }
+        } else {
+            taken
         }
-        if n.0 == vote + 1 {
-            self.second = rxd;
-            return self;
-        }
-        self
     }
 
     // The bit's last sample is taken. (The stop bit has none: its frame has completed by then.)
+    #[tactic(auto, unfolding(crate::specs::Sampler::next_bit_of))]
     fn next_bit(self, f: Format) -> Reception
         ensures { result ≡ next_bit_of f self }
     {
         if self.bit <= f.word_bits() {
-            return Reception {
+            Reception {
                 bit: self.bit + 1,
-                sample: Sample(0),
-                first: false,
-                second: false,
                 word: self.word,
                 splits: self.splits,
-            };
+                ..Reception::default()
+            }
+        } else {
+            self
         }
-        self
     }
 
     // A bit of the word comes in at the top.
-    fn shifted(mut self, f: Format, level: bool) -> Reception
+    #[tactic(auto, unfolding(crate::specs::Sampler::shifted_of))]
+    fn shifted(self, f: Format, level: bool) -> Reception
         ensures { result ≡ shifted_of f self level }
     {
         let half = self.word / 2;
-        if level {
-            self.word = half + f.top();
-            return self;
+        Reception {
+            word: if level { half + f.top() } else { half },
+            ..self
         }
-        self.word = half;
-        self
     }
 
     // The last vote is cast, by the sample rxd, and the majority is level.
+    #[tactic(auto, unfolding(crate::specs::Sampler::decided_of))]
     fn decided(self, f: Format, rxd: bool, level: bool) -> Sampled
         ensures { result ≡ decided_of f self rxd level }
     {
-        let rest = Sampler::Idle(rxd);
-        if self.bit == 0 {
-            if level {
-                return Sampled {
-                    sampler: rest,
-                    outcome: Outcome::Nothing,
-                };
-            }
-            return Sampled {
+        if self.bit == 0 && level {
+            Sampled::still(Sampler::Idle(rxd))
+        } else if self.bit == 0 {
+            Sampled {
                 sampler: Sampler::Receiving(self),
                 outcome: Outcome::Started,
-            };
-        }
-        if self.bit <= f.word_bits() {
-            let r = self.shifted(f, level);
-            return Sampled {
-                sampler: Sampler::Receiving(r),
-                outcome: Outcome::Nothing,
-            };
-        }
-        Sampled {
-            sampler: rest,
-            outcome: Outcome::Complete(self.word, level, self.splits),
+            }
+        } else if self.bit <= f.word_bits() {
+            Sampled::still(Sampler::Receiving(self.shifted(f, level)))
+        } else {
+            Sampled {
+                sampler: Sampler::Idle(rxd),
+                outcome: Outcome::Complete {
+                    word: self.word,
+                    stop: level,
+                    splits: self.splits,
+                },
+            }
         }
     }
 
     // Sample n of the bit, which is not its last. At the last vote the two that were kept are spent, and a split vote
     // is counted.
-    fn voted(mut self, f: Format, n: Sample, rxd: bool) -> Sampled
+    #[tactic(auto, unfolding(crate::specs::Sampler::voted_of))]
+    fn voted(self, f: Format, n: Sample, rxd: bool) -> Sampled
         ensures { result ≡ voted_of f self n rxd }
     {
-        if n.0 == f.first_vote() + 2 {
-            let vote = frame::majority(self.first, self.second, rxd);
-            let splits = tally(self.splits, vote.unanimous);
-            self.sample = n;
-            self.first = false;
-            self.second = false;
-            self.splits = splits;
-            return self.decided(f, rxd, vote.level);
+        if n.0 != f.first_vote() + 2 {
+            return Sampled::still(Sampler::Receiving(self.cast(f, n, rxd)));
         }
-        let r = self.cast(f, n, rxd);
-        Sampled {
-            sampler: Sampler::Receiving(r),
-            outcome: Outcome::Nothing,
-        }
+        let vote = frame::majority(self.first, self.second, rxd);
+        let spent = Reception {
+            sample: n,
+            first: false,
+            second: false,
+            splits: tally(self.splits, vote.unanimous),
+            ..self
+        };
+        spent.decided(f, rxd, vote.level)
     }
 
+    #[tactic(auto, unfolding(crate::specs::Sampler::sampled_of))]
     fn sampled(self, f: Format, rxd: bool) -> Sampled
         ensures { result ≡ sampled_of f self rxd }
     {
         if self.sample.0 < f.samples() - 1 {
-            return self.voted(f, Sample(self.sample.0 + 1), rxd);
-        }
-        let r = self.next_bit(f);
-        Sampled {
-            sampler: Sampler::Receiving(r),
-            outcome: Outcome::Nothing,
+            self.voted(f, Sample(self.sample.0 + 1), rxd)
+        } else {
+            Sampled::still(Sampler::Receiving(self.next_bit(f)))
         }
     }
 }
 
 impl Sampler {
     // A tick: the level of RxD is sampled.
+    #[tactic(auto, unfolding(crate::specs::Sampler::sampler_of))]
     pub fn tick(self, f: Format, rxd: bool) -> Sampled
         ensures { result ≡ sampler_of f self rxd }
     {
@@ -213,9 +208,6 @@ impl Sampler {
     pub fn receiving(self) -> bool
         ensures { result ≡ is_receiving self }
     {
-        match self {
-            Sampler::Idle(_) => false,
-            Sampler::Receiving(_) => true,
-        }
+        matches!(self, Sampler::Receiving(_))
     }
 }

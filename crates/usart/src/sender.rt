@@ -5,34 +5,21 @@ ghost use Rattle.usart.specs.Sender.{acknowledged_of};
 use crate::sample::Sample;
 use frame::Format;
 
-// The transmit buffer.
-#[derive(Clone, Copy)]
-pub enum Buffer {
-    // UDRE is set.
-    Vacant,
-    // Data bits that wait for the shifter.
-    Full(u16),
-}
-
 // A frame in the shifter: its word, the bit that is on the line (0 is the start bit) and the ticks of it that have
 // passed.
-#[derive(Clone, Copy)]
+#[derive(Clone, Copy, PartialEq, Eq, Default)]
 pub struct Transmission {
     pub word: u16,
     pub bit: u8,
     pub sample: Sample,
 }
 
-#[derive(Clone, Copy)]
-pub enum ShiftRegister {
-    Resting,
-    Sending(Transmission),
-}
-
-#[derive(Clone, Copy)]
+#[derive(Clone, Copy, Default)]
 pub struct Sender {
-    pub buffer: Buffer,
-    pub shifter: ShiftRegister,
+    // Data bits that wait for the shifter; with none UDRE is set.
+    pub buffer: Option<u16>,
+    // The frame that is being sent; with none the shifter rests.
+    pub shifter: Option<Transmission>,
     pub txc: bool,
 }
 
@@ -40,86 +27,72 @@ impl Sender {
     pub fn vacant(self) -> bool
         ensures { result ≡ is_vacant self.buffer }
     {
-        let b = self.buffer;
-        match b {
-            Buffer::Vacant => true,
-            Buffer::Full(_) => false,
-        }
+        self.buffer.is_none()
     }
 
     pub fn resting(self) -> bool
         ensures { result ≡ is_resting self.shifter }
     {
-        let s = self.shifter;
-        match s {
-            ShiftRegister::Resting => true,
-            ShiftRegister::Sending(_) => false,
-        }
+        self.shifter.is_none()
     }
 
     // A full buffer moves to the shifter and the start bit begins; with none the shifter rests, and TXC becomes txc.
     fn moved(self, f: Format, txc: bool) -> Sender
         ensures { result ≡ moved_of f self txc }
     {
-        let b = self.buffer;
-        match b {
-            Buffer::Vacant => Sender {
-                buffer: Buffer::Vacant,
-                shifter: ShiftRegister::Resting,
-                txc: txc,
+        match self.buffer {
+            None => Sender {
+                buffer: None,
+                shifter: None,
+                txc,
             },
-            Buffer::Full(d) => {
+            Some(d) => {
                 let t = Transmission {
                     word: f.word(d),
                     bit: 0,
                     sample: Sample(0),
                 };
                 Sender {
-                    buffer: Buffer::Vacant,
-                    shifter: ShiftRegister::Sending(t),
+                    buffer: None,
+                    shifter: Some(t),
                     txc: self.txc,
                 }
             }
         }
     }
 
-    fn at(self, t: Transmission) -> Sender
+    // The frame in the shifter at another place.
+    pub(crate) fn at(self, t: Transmission) -> Sender
         ensures { result ≡ at_of self t }
     {
-        let b = self.buffer;
         Sender {
-            buffer: b,
-            shifter: ShiftRegister::Sending(t),
-            txc: self.txc,
+            shifter: Some(t),
+            ..self
         }
     }
 
     // A shifter at rest and a frame's end share one call of `moved`: called from one place it is inlined, which a run's
     // speed rests on.
+    #[tactic(auto, unfolding(crate::specs::Sender::stepped_of))]
     pub fn tick(self, f: Format) -> Sender
         ensures { result ≡ sender_of f self }
     {
-        let s = self.shifter;
         let mut txc = self.txc;
-        match s {
-            ShiftRegister::Resting => {}
-            ShiftRegister::Sending(t) => {
-                if t.sample.0 < f.samples() - 1 {
-                    return self.at(Transmission {
-                        word: t.word,
-                        bit: t.bit,
-                        sample: Sample(t.sample.0 + 1),
-                    });
-                }
-                if t.bit < f.last_bit() {
-                    return self.at(Transmission {
-                        word: t.word,
-                        bit: t.bit + 1,
-                        sample: Sample(0),
-                    });
-                }
-                txc = true;
+        if let Some(t) = self.shifter {
+            if t.sample.0 < f.samples() - 1 {
+                return self.at(Transmission {
+                    sample: Sample(t.sample.0 + 1),
+                    ..t
+                });
             }
+            if t.bit < f.last_bit() {
+                return self.at(Transmission {
+                    bit: t.bit + 1,
+                    sample: Sample(0),
+                    ..t
+                });
+            }
+            txc = true;
         }
         self.moved(f, txc)
     }
@@ -128,10 +101,9 @@ impl Sender {
     pub fn txd(self, f: Format) -> bool
         ensures { result ≡ txd_of f self.shifter }
     {
-        let s = self.shifter;
-        match s {
-            ShiftRegister::Resting => true,
-            ShiftRegister::Sending(t) => f.bit_level(t.word, t.bit),
+        match self.shifter {
+            None => true,
+            Some(t) => f.bit_level(t.word, t.bit),
         }
     }
 
@@ -139,27 +111,16 @@ impl Sender {
     pub fn filled(self, data: u16) -> Sender
         ensures { result ≡ filled_of self «data» }
     {
-        let b = self.buffer;
-        let s = self.shifter;
-        match b {
-            Buffer::Vacant => Sender {
-                buffer: Buffer::Full(data),
-                shifter: s,
-                txc: self.txc,
-            },
-            Buffer::Full(e) => Sender {
-                buffer: Buffer::Full(e),
-                shifter: s,
-                txc: self.txc,
-            },
+        Sender {
+            buffer: self.buffer.or(Some(data)),
+            ..self
         }
     }
 
     // TXC is cleared.
-    pub fn acknowledged(mut self) -> Sender
+    pub fn acknowledged(self) -> Sender
         ensures { result ≡ acknowledged_of self }
     {
-        self.txc = false;
-        self
+        Sender { txc: false, ..self }
     }
 }

@@ -1,16 +1,10 @@
 ghost use Rattle.std.specs.Prelude.{◌≡◌, ◌≤◌};
-ghost use Rattle.usart.specs.Settings.{code_of, size_of, upm_of, parity_of, settings_of};
+ghost use Rattle.usart.specs.Settings.{code_of, size_of, upm_of, parity_of};
 
-use choice::digit;
-use frame::{Format, Parity, Size};
+use frame::{Parity, Size};
 
-// What a size code UCSZ2:0 stands for.
-#[derive(Clone, Copy)]
-pub enum Coded {
-    Known(Size),
-    Reserved,
-}
-
+// Sizes and parities are the frame's and numbers are std's, so an `impl` of From here would be of a foreign trait for
+// foreign types; and the frame knows nothing of codes.
 pub fn size_code(z: Size) -> u8
     ensures value { result ≡ code_of z }
     ensures upper_bound { result ≤ 7 }
@@ -24,25 +18,19 @@ pub fn size_code(z: Size) -> u8
     }
 }
 
-pub fn size_of(code: u8) -> Coded
+// The size that a code UCSZ2:0 stands for; none where it is reserved.
+#[tactic(auto, unfolding(crate::specs::Settings::size_of))]
+pub fn size_of(code: u8) -> Option<Size>
     ensures { result ≡ size_of code }
 {
-    if code == 0 {
-        return Coded::Known(Size::Five);
+    match code {
+        0 => Some(Size::Five),
+        1 => Some(Size::Six),
+        2 => Some(Size::Seven),
+        3 => Some(Size::Eight),
+        7 => Some(Size::Nine),
+        _ => None,
     }
-    if code == 1 {
-        return Coded::Known(Size::Six);
-    }
-    if code == 2 {
-        return Coded::Known(Size::Seven);
-    }
-    if code == 3 {
-        return Coded::Known(Size::Eight);
-    }
-    if code == 7 {
-        return Coded::Known(Size::Nine);
-    }
-    Coded::Reserved
 }
 
 pub fn upm(p: Parity) -> u8
@@ -57,23 +45,13 @@ pub fn upm(p: Parity) -> u8
 }
 
 // 01 is refused before it comes here.
+#[tactic(auto, unfolding(crate::specs::Settings::parity_of))]
 pub fn parity_of(code: u8) -> Parity
     ensures { result ≡ parity_of code }
 {
-    if code == 2 {
-        return Parity::Even;
+    match code {
+        2 => Parity::Even,
+        3 => Parity::Odd,
+        _ => Parity::Off,
     }
-    if code == 3 {
-        return Parity::Odd;
-    }
-    Parity::Off
-}
-
-// The bits that may not change while a frame is under way, as one number.
-pub fn settings(f: Format) -> u8
-    ensures { result ≡ settings_of f }
-{
-    let z = f.size;
-    let p = f.parity;
-    size_code(z) + digit(f.usbs) * 8 + upm(p) * 16 + digit(f.u2x) * 64
 }

@@ -1,21 +1,12 @@
 ghost use Rattle.std.specs.Prelude.{◌≡◌};
 ghost use Rattle.usart.specs.Baud.{ticks_in, clocks_for};
-ghost use Rattle.usart.specs.Counting.{least};
 
 use crate::baud::Baud;
 use span::Span;
 
 // Ticks in a row, as a count that can't be taken for one of clocks; of the receiver a sample each.
-#[derive(Clone, Copy)]
+#[derive(Clone, Copy, PartialEq, Eq, PartialOrd, Ord)]
 pub struct Ticks(pub usize);
-
-impl Ticks {
-    pub fn least(self, other: Ticks) -> Ticks
-        ensures { result.0 ≡ least self.0 other.0 }
-    {
-        if self.0 < other.0 { self } else { other }
-    }
-}
 
 // Clocks become ticks, and ticks clocks, here alone.
 impl Baud {
@@ -26,9 +17,10 @@ impl Baud {
         let left = self.left.0 as usize;
         let period = self.ubrr as usize + 1;
         if left < n.0 {
-            return Ticks((n.0 - left - 1) / period + 1);
+            Ticks((n.0 - left - 1) / period + 1)
+        } else {
+            Ticks(0)
         }
-        Ticks(0)
     }
 
     // The same at UBRR 0, where every clock is a tick: no division.

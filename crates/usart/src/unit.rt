@@ -1,15 +1,15 @@
 ghost use Rattle.std.specs.Prelude.{◌≡◌};
 ghost use Rattle.usart.specs.Unit.{reset_usart, is_busy, ticked_of, clock_of, is_driven, output_of};
 ghost use Rattle.usart.specs.Unit.{requests_of, rxc_requested, udre_requested, txc_requested};
+ghost use Rattle.usart.specs.Write.{control_in};
 
-use crate::baud::{Baud, Clocks};
+use crate::baud::Baud;
 use crate::receiver::Receiver;
-use crate::sender::{Buffer, Sender, ShiftRegister};
-use choice::digit;
+use crate::sender::Sender;
 use frame::{Format, Parity, Size};
 
 // UCSR0B, but for the bits that are kept elsewhere: UCSZ2 in the format, RXB8 with the oldest frame.
-#[derive(Clone, Copy)]
+#[derive(Clone, Copy, Default)]
 pub struct Control {
     pub rxcie: bool,
     pub txcie: bool,
@@ -17,6 +17,22 @@ pub struct Control {
     pub rxen: bool,
     pub txen: bool,
     pub txb8: bool,
+}
+
+impl Control {
+    // Of a byte that is written to UCSR0B, or that a record keeps of it.
+    pub fn of(byte: u8) -> Control
+        ensures { result ≡ control_in byte }
+    {
+        Control {
+            rxcie: byte / 128 % 2 == 1,
+            txcie: byte / 64 % 2 == 1,
+            udrie: byte / 32 % 2 == 1,
+            rxen: byte / 16 % 2 == 1,
+            txen: byte / 8 % 2 == 1,
+            txb8: byte % 2 == 1,
+        }
+    }
 }
 
 #[derive(Clone, Copy)]
@@ -32,33 +48,16 @@ impl Usart {
     pub fn reset() -> Usart
         ensures { result ≡ reset_usart }
     {
-        let f = Format {
-            size: Size::Eight,
-            parity: Parity::Off,
-            usbs: false,
-            u2x: false,
-        };
-        let c = Control {
-            rxcie: false,
-            txcie: false,
-            udrie: false,
-            rxen: false,
-            txen: false,
-            txb8: false,
-        };
-        let s = Sender {
-            buffer: Buffer::Vacant,
-            shifter: ShiftRegister::Resting,
-            txc: false,
-        };
         Usart {
-            baud: Baud {
-                ubrr: 0,
-                left: Clocks(0),
+            baud: Baud::default(),
+            format: Format {
+                size: Size::Eight,
+                parity: Parity::Off,
+                usbs: false,
+                u2x: false,
             },
-            format: f,
-            control: c,
-            sender: s,
+            control: Control::default(),
+            sender: Sender::default(),
             receiver: Receiver::stopped(),
         }
     }
@@ -68,56 +67,40 @@ impl Usart {
     pub fn busy(self) -> bool
         ensures { result ≡ is_busy self }
     {
-        let r = self.receiver;
-        let s = r.sampler;
-        if self.sender.vacant() {
-            if self.sender.resting() {
-                return s.receiving();
-            }
-        }
-        true
+        !self.sender.vacant() || !self.sender.resting() || self.receiver.sampler.receiving()
     }
 
     fn ticked(self, rxd: bool) -> Usart
         ensures { result ≡ ticked_of self rxd }
     {
-        let f = self.format;
-        let c = self.control;
-        let s = self.sender.tick(f);
-        let r = self.receiver.listened(c.rxen, f, rxd);
         Usart {
             baud: self.baud.next(),
-            format: f,
-            control: c,
-            sender: s,
-            receiver: r,
+            sender: self.sender.tick(self.format),
+            receiver: self.receiver.listened(self.control.rxen, self.format, rxd),
+            ..self
         }
     }
 
     // One clock, with the level of RxD.
     #[tactic(auto, unfolding(crate::specs::Unit::clock_of))]
-    pub fn clock(mut self, rxd: bool) -> Usart
+    pub fn clock(self, rxd: bool) -> Usart
         ensures { result ≡ clock_of self rxd }
     {
         if self.baud.ticks() {
-            return self.ticked(rxd);
+            self.ticked(rxd)
+        } else {
+            Usart {
+                baud: self.baud.next(),
+                ..self
+            }
         }
-        let b = self.baud.next();
-        self.baud = b;
-        self
     }
 
     #[tactic(auto, unfolding(crate::specs::Unit::is_driven))]
     fn driven(self) -> bool
         ensures { result ≡ is_driven self }
     {
-        if self.control.txen {
-            return true;
-        }
-        if self.sender.vacant() {
-            return !self.sender.resting();
-        }
-        true
+        self.control.txen || !self.sender.vacant() || !self.sender.resting()
     }
 
     // TxD in bit 0 and its driven mark in bit 4; undriven shows 0.
@@ -125,25 +108,23 @@ impl Usart {
     pub fn output(self) -> u8
         ensures { result ≡ output_of self }
     {
-        let f = self.format;
         if self.driven() {
-            return digit(self.sender.txd(f)) + 16;
+            u8::from(self.sender.txd(self.format)) + 16
+        } else {
+            0
         }
-        0
     }
 
     fn rxc_requested(self) -> bool
         ensures { result ≡ rxc_requested self }
     {
-        let empty = self.receiver.queue.empty();
-        self.control.rxcie && !empty
+        self.control.rxcie && !self.receiver.queue.empty()
     }
 
     fn udre_requested(self) -> bool
         ensures { result ≡ udre_requested self }
     {
-        let vacant = self.sender.vacant();
-        self.control.udrie && vacant
+        self.control.udrie && self.sender.vacant()
     }
 
     pub fn txc_requested(self) -> bool
@@ -156,8 +137,8 @@ impl Usart {
     pub fn requests(self) -> u8
         ensures { result ≡ requests_of self }
     {
-        digit(self.rxc_requested())
-            + digit(self.udre_requested()) * 2
-            + digit(self.txc_requested()) * 4
+        u8::from(self.rxc_requested())
+            + u8::from(self.udre_requested()) * 2
+            + u8::from(self.txc_requested()) * 4
     }
 }

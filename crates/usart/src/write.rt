@@ -1,17 +1,16 @@
 ghost use Rattle.std.specs.Prelude.{◌≡◌};
 ghost use Rattle.usart.specs.Write.{with_sender, with_format, with_baud, txc_cleared, formatted_of, write_a};
-ghost use Rattle.usart.specs.Write.{controlled, sized_b, write_b, is_reserved_c, sized_c, write_c, timed_of, write_l};
-ghost use Rattle.usart.specs.Write.{write_h, transmitted_of, write_of, vector_of};
+ghost use Rattle.usart.specs.Write.{controlled, write_b, is_reserved_c, write_c, timed_of, write_l, write_h};
+ghost use Rattle.usart.specs.Write.{transmitted_of, write_of, vector_of};
 
 use crate::baud::Baud;
 use crate::sender::Sender;
-use crate::settings::{Coded, parity_of, settings, size_code, size_of};
+use crate::settings::{parity_of, size_code, size_of};
 use crate::unit::{Control, Usart};
 use answer::Refusal;
-use choice::digit;
-use frame::{Format, Size};
+use frame::Format;
 
-#[derive(Clone, Copy)]
+#[derive(Clone, Copy, PartialEq, Eq)]
 pub enum Register {
     Ucsr0a,
     Ucsr0b,
@@ -21,47 +20,33 @@ pub enum Register {
     Udr0,
 }
 
-#[derive(Clone, Copy)]
-pub enum Written {
-    Done(Usart),
-    Refused(Refusal),
-}
-
 impl Usart {
-    fn with_sender(mut self, s: Sender) -> Usart
-        ensures { result ≡ with_sender self s }
+    fn with_sender(self, sender: Sender) -> Usart
+        ensures { result ≡ with_sender self sender }
     {
-        self.sender = s;
-        self
+        Usart { sender, ..self }
     }
 
-    fn with_format(mut self, f: Format) -> Usart
-        ensures { result ≡ with_format self f }
+    fn with_format(self, format: Format) -> Usart
+        ensures { result ≡ with_format self format }
     {
-        self.format = f;
-        self
+        Usart { format, ..self }
     }
 
-    fn with_baud(mut self, b: Baud) -> Usart
-        ensures { result ≡ with_baud self b }
+    fn with_baud(self, baud: Baud) -> Usart
+        ensures { result ≡ with_baud self baud }
     {
-        self.baud = b;
-        self
+        Usart { baud, ..self }
     }
 
     // The format f, unless it changes while busy, which is judged on the state before the write.
-    #[tactic(auto, unfolding(crate::specs::Write::formatted_of))]
-    fn formatted(self, busy: bool, f: Format) -> Written
+    fn formatted(self, busy: bool, f: Format) -> Result<Usart, Refusal>
         ensures { result ≡ formatted_of self busy f }
     {
-        let g = self.format;
-        if busy {
-            if settings(f) == settings(g) {
-                return Written::Done(self);
-            }
-            return Written::Refused(Refusal::UnderWay);
+        if busy && f != self.format {
+            return Err(Refusal::UnderWay);
         }
-        Written::Done(self.with_format(f))
+        Ok(self.with_format(f))
     }
 
     // Bit 6 of a write to UCSR0A clears TXC.
@@ -70,142 +55,101 @@ impl Usart {
         ensures { result ≡ txc_cleared self v }
     {
         if v / 64 % 2 == 1 {
-            return self.with_sender(self.sender.acknowledged());
+            self.with_sender(self.sender.acknowledged())
+        } else {
+            self
         }
-        self
     }
 
     #[tactic(auto, unfolding(crate::specs::Write::write_a))]
-    fn write_ucsr0a(self, v: u8) -> Written
+    fn write_ucsr0a(self, v: u8) -> Result<Usart, Refusal>
         ensures { result ≡ write_a self v }
     {
         if v % 2 == 1 {
-            return Written::Refused(Refusal::Unmodelled);
+            return Err(Refusal::Unmodelled);
         }
-        let f = self.format;
-        let z = f.size;
-        let p = f.parity;
-        let g = Format {
-            size: z,
-            parity: p,
-            usbs: f.usbs,
+        let format = Format {
             u2x: v / 2 % 2 == 1,
+            ..self.format
         };
-        self.cleared(v).formatted(self.busy(), g)
+        self.cleared(v).formatted(self.busy(), format)
     }
 
     // UCSR0B but for the size bit.
     fn controlled(self, v: u8) -> Usart
         ensures { result ≡ controlled self v }
     {
-        let c = Control {
-            rxcie: v / 128 % 2 == 1,
-            txcie: v / 64 % 2 == 1,
-            udrie: v / 32 % 2 == 1,
-            rxen: v / 16 % 2 == 1,
-            txen: v / 8 % 2 == 1,
-            txb8: v % 2 == 1,
-        };
-        let b = self.baud;
-        let f = self.format;
-        let s = self.sender;
-        let r = self.receiver.enabled(self.control.rxen, c.rxen);
+        let control = Control::of(v);
         Usart {
-            baud: b,
-            format: f,
-            control: c,
-            sender: s,
-            receiver: r,
+            control,
+            receiver: self.receiver.enabled(self.control.rxen, control.rxen),
+            ..self
         }
     }
 
-    fn sized_b(self, z: Size, v: u8) -> Written
-        ensures { result ≡ sized_b self z v }
-    {
-        let f = self.format;
-        let p = f.parity;
-        let g = Format {
-            size: z,
-            parity: p,
-            usbs: f.usbs,
-            u2x: f.u2x,
-        };
-        self.controlled(v).formatted(self.busy(), g)
-    }
-
-    fn write_ucsr0b(self, v: u8) -> Written
+    fn write_ucsr0b(self, v: u8) -> Result<Usart, Refusal>
         ensures { result ≡ write_b self v }
     {
-        let f = self.format;
-        let z = f.size;
-        let k = size_of(v / 4 % 2 * 4 + size_code(z) % 4);
-        match k {
-            Coded::Known(y) => self.sized_b(y, v),
-            Coded::Reserved => Written::Refused(Refusal::Reserved),
-        }
+        let code = v / 4 % 2 * 4 + size_code(self.format.size) % 4;
+        let size = size_of(code).ok_or(Refusal::Reserved)?;
+        let format = Format {
+            size,
+            ..self.format
+        };
+        self.controlled(v).formatted(self.busy(), format)
     }
 
-    #[tactic(auto, unfolding(crate::specs::Write::sized_c))]
-    fn sized_c(self, z: Size, v: u8) -> Written
-        ensures { result ≡ sized_c self z v }
-    {
-        if v / 64 == 0 {
-            let p = parity_of(v / 16 % 4);
-            let g = Format {
-                size: z,
-                parity: p,
-                usbs: v / 8 % 2 == 1,
-                u2x: self.format.u2x,
-            };
-            return self.formatted(self.busy(), g);
-        }
-        Written::Refused(Refusal::Unmodelled)
-    }
-
-    #[tactic(auto, unfolding(crate::specs::Write::write_c))]
-    fn write_ucsr0c(self, v: u8) -> Written
+    #[tactic(auto, unfolding(crate::specs::Write::write_c, crate::specs::Write::sized_c))]
+    fn write_ucsr0c(self, v: u8) -> Result<Usart, Refusal>
         ensures { result ≡ write_c self v }
     {
-        let f = self.format;
-        let z = f.size;
-        let k = size_of(size_code(z) / 4 * 4 + v / 2 % 4);
         if reserved_c(v) {
-            return Written::Refused(Refusal::Reserved);
+            return Err(Refusal::Reserved);
         }
-        match k {
-            Coded::Known(y) => self.sized_c(y, v),
-            Coded::Reserved => Written::Refused(Refusal::Reserved),
+        let code = size_code(self.format.size) / 4 * 4 + v / 2 % 4;
+        let size = size_of(code).ok_or(Refusal::Reserved)?;
+        if v / 64 != 0 {
+            return Err(Refusal::Unmodelled);
         }
+        let format = Format {
+            size,
+            parity: parity_of(v / 16 % 4),
+            usbs: v / 8 % 2 == 1,
+            ..self.format
+        };
+        self.formatted(self.busy(), format)
     }
 
     // A new baud setting, unless busy.
     #[tactic(auto, unfolding(crate::specs::Write::timed_of))]
-    fn timed(self, b: Baud) -> Written
+    fn timed(self, b: Baud) -> Result<Usart, Refusal>
         ensures { result ≡ timed_of self b }
     {
         if self.busy() {
-            return Written::Refused(Refusal::UnderWay);
+            return Err(Refusal::UnderWay);
         }
-        Written::Done(self.with_baud(b))
+        Ok(self.with_baud(b))
     }
 
-    fn write_ubrr0l(self, v: u8) -> Written
+    fn write_ubrr0l(self, v: u8) -> Result<Usart, Refusal>
         ensures { result ≡ write_l self v }
     {
-        let u = self.baud.ubrr / 256 * 256 + v as u16;
-        self.timed(Baud::loaded(u))
+        let [_, high] = self.baud.ubrr.to_le_bytes();
+        self.timed(Baud::loaded(u16::from_le_bytes([v, high])))
     }
 
     #[tactic(auto, unfolding(crate::specs::Write::write_h))]
-    fn write_ubrr0h(self, v: u8) -> Written
+    fn write_ubrr0h(self, v: u8) -> Result<Usart, Refusal>
         ensures { result ≡ write_h self v }
     {
         if 16 <= v {
-            return Written::Refused(Refusal::Reserved);
+            return Err(Refusal::Reserved);
         }
-        let n = self.baud.left;
-        let u = v as u16 * 256 + self.baud.ubrr % 256;
-        self.timed(Baud { ubrr: u, left: n })
+        let [low, _] = self.baud.ubrr.to_le_bytes();
+        self.timed(Baud {
+            ubrr: u16::from_le_bytes([low, v]),
+            ..self.baud
+        })
     }
 
     // Data for the transmit buffer, taken with TXEN and UDRE set.
@@ -213,15 +157,16 @@ impl Usart {
     fn transmitted(self, v: u8) -> Usart
         ensures { result ≡ transmitted_of self v }
     {
-        let f = self.format;
-        if self.control.txen {
-            let d = f.masked(digit(self.control.txb8) as u16 * 256 + v as u16);
-            return self.with_sender(self.sender.filled(d));
+        if !self.control.txen {
+            return self;
         }
-        self
+        let bits = self
+            .format
+            .masked(u8::from(self.control.txb8) as u16 * 256 + v as u16);
+        self.with_sender(self.sender.filled(bits))
     }
 
-    pub fn write(self, register: Register, v: u8) -> Written
+    pub fn write(self, register: Register, v: u8) -> Result<Usart, Refusal>
         ensures { result ≡ write_of self register v }
     {
         match register {
@@ -230,19 +175,19 @@ impl Usart {
             Register::Ucsr0c => self.write_ucsr0c(v),
             Register::Ubrr0l => self.write_ubrr0l(v),
             Register::Ubrr0h => self.write_ubrr0h(v),
-            Register::Udr0 => Written::Done(self.transmitted(v)),
+            Register::Udr0 => Ok(self.transmitted(v)),
         }
     }
 
     // Vector 0 clears TXC.
     #[tactic(auto, unfolding(crate::specs::Write::vector_of))]
-    pub fn take_vector(self) -> Written
+    pub fn take_vector(self) -> Result<Usart, Refusal>
         ensures { result ≡ vector_of self }
     {
-        if self.txc_requested() {
-            return Written::Done(self.with_sender(self.sender.acknowledged()));
+        if !self.txc_requested() {
+            return Err(Refusal::Unrequested);
         }
-        Written::Refused(Refusal::Unrequested)
+        Ok(self.with_sender(self.sender.acknowledged()))
     }
 }
 
@@ -251,11 +196,5 @@ impl Usart {
 fn reserved_c(v: u8) -> bool
     ensures { result ≡ is_reserved_c v }
 {
-    if v / 64 == 2 {
-        return true;
-    }
-    if v / 16 % 4 == 1 {
-        return true;
-    }
-    v % 2 == 1
+    v / 64 == 2 || v / 16 % 4 == 1 || v % 2 == 1
 }

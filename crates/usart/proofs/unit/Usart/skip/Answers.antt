@@ -1,13 +1,24 @@
-use mathlib.Core.Path.{◌≡◌, sym, ◌∙◌}
+use mathlib.Core.Path.{◌≡◌, ap, ◌∙◌}
+use Prim.Native.Nat.{ℕ}
 use Rattle.usart.specs.Counting.{quiet_of, least}
-use Rattle.usart.proofs.CountingLaws.{least-low, counted_none}
+use Rattle.usart.specs.declared.unit.Usart.{Usart}
+use Rattle.usart.proofs.CountingLaws.{least-low, least-span, counted_none}
 use Rattle.usart.proofs.unit.Usart.skip.Goals as goal
 
-pub returns-then-k-eq0 : goal.returns-then-k-eq0
-returns-then-k-eq0 c =
+pub returns-then-clocks-eq0 : goal.returns-then-clocks-eq0
+returns-then-clocks-eq0 c =
     let u = c.args.self in
-    let e : least (quiet_of u) c.args.n.0 ≡ 0 = sym (rw (c.shorter-k.ensures, c.quiet.ensures)) ∙ c.if-k-eq0.true in
-    rw (e, counted_none u, c.if-k-eq0.true)
+    let l : c.min-clocks.result.0 ≡ least (quiet_of u) c.args.n.0 =
+    least-span c.quiet.result c.args.n c.min-clocks.ensures ∙ ap (λ (m : ℕ). least m c.args.n.0) c.quiet.ensures in
+    rw (← l, c.if-clocks-eq0.true, counted_none u)
 
-pub counted-u-requires-clause-n_bound : goal.counted-u-requires-clause-n_bound
-counted-u-requires-clause-n_bound c = rw (c.shorter-k.ensures, c.quiet.ensures) (least-low _ _)
+pub counted-state-requires-clause-n_bound : goal.counted-state-requires-clause-n_bound
+counted-state-requires-clause-n_bound c =
+    rw (least-span c.quiet.result c.args.n c.min-clocks.ensures, c.quiet.ensures) (least-low _ _)
+
+pub returns-else-clocks-eq0 : goal.returns-else-clocks-eq0
+returns-else-clocks-eq0 c =
+    let u : Usart = c.args.self in
+    let l : c.min-clocks.result.0 ≡ least (quiet_of u) c.args.n.0 =
+    least-span c.quiet.result c.args.n c.min-clocks.ensures ∙ ap (λ (m : ℕ). least m c.args.n.0) c.quiet.ensures in
+    rw (← l, c.counted-state.ensures)
