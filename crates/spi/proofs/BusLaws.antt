@@ -14,6 +14,7 @@ use Rattle.spi.specs.Clock.{is_sck_edge}
 use Rattle.spi.specs.Wired.{Linked}
 use Rattle.spi.specs.declared.control.Control.{Control}
 use Rattle.spi.specs.declared.unit.Spi.{Spi}
+use Rattle.spi.proofs.Differing.{same-level}
 
 -- what the output bytes show
 mosi-sck : (a b : Bool) → let o : ℕ = (16 + digit a) * 2 + (16 + digit b) * 8 in (is_set o 2 ≡ a) × (is_set o 8 ≡ b)
@@ -68,14 +69,6 @@ unfolding is_sck_edge
 level-turns cpol k =
     split (eqb k 0) (λ z. subst (λ (n : ℕ). is_sck_edge cpol n (level_at cpol n) (level_at cpol (n + 1)) ≡ true) (sym (eqb-true k 0 z)) (leaves cpol))
     (λ z. rw (next-odd k, turned cpol (eqb (k % 2) 1), z))
-
--- two levels that do not differ
-pub same-level : (a b : Bool) → differs a b ≡ false → b ≡ a
-unfolding differs
-same-level true true h = refl
-same-level false false h = refl
-same-level true false h = clash refl h
-same-level false true h = clash refl h
 
 -- what is seen to turn from the level after k edges is at the next one's
 turns : (sck odd cpol : Bool) → differs sck (differs odd cpol) ≡ true → sck ≡ differs (not odd) cpol

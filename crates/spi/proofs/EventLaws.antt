@@ -2,6 +2,7 @@
 use Prim.Native.Nat.{ℕ}
 use mathlib.Core.Bool.{true, false}
 use mathlib.Core.Path.{◌≡◌, refl, sym, subst, ◌∙◌}
+use Rattle.std.proofs.Common.{Err, Ok, Result}
 use Rattle.choice.proofs.Picks.{pick_ind, split, clash}
 use Rattle.spi.specs.Flag.{is_up, armed_of, cleared_of}
 use Rattle.spi.specs.Unit.{is_requested}
@@ -12,8 +13,7 @@ use Rattle.spi.specs.declared.flag.Flag.TheVariants.{Clear, Set, Armed}
 use Rattle.spi.specs.declared.unit.Spi.{Spi}
 use Rattle.spi.specs.declared.register.Register.{Register}
 use Rattle.spi.specs.declared.register.Register.TheVariants.{Spcr, Spsr, Spdr, Ddrb}
-use Rattle.spi.specs.declared.register.Written.{Written}
-use Rattle.spi.specs.declared.register.Written.TheVariants.{Done, Refused}
+use Rattle.answer.specs.declared.Refusal.{Refusal}
 
 pub record Same (s t : Spi) : Type 0 where
   pub control : t.control ≡ s.control
@@ -31,7 +31,7 @@ armed-up Armed = refl
 
 -- reading SPSR alone clears nothing
 pub spsr-clears-none : (s : Spi)
-    → (is_up (read_of s Spsr).spi.flags.spif ≡ is_up s.flags.spif) × (is_up (read_of s Spsr).spi.flags.wcol ≡ is_up s.flags.wcol)
+    → (is_up (read_of s Spsr).after.flags.spif ≡ is_up s.flags.spif) × (is_up (read_of s Spsr).after.flags.wcol ≡ is_up s.flags.wcol)
 spsr-clears-none s = (armed-up s.flags.spif, armed-up s.flags.wcol)
 
 cleared-down : (f : Flag) → is_up f ≡ false → is_up (cleared_of f) ≡ false
@@ -39,9 +39,9 @@ cleared-down Clear h = h
 cleared-down Set h = h
 cleared-down Armed h = refl
 
-refused-same : (s : Spi) (w : Written) → is_refused w ≡ true → Same s (settled s w)
-refused-same s (Done t) h = clash h refl
-refused-same s (Refused r) h = same s
+refused-same : (s : Spi) (w : Result Spi Refusal) → is_refused w ≡ true → Same s (settled s w)
+refused-same s (Ok t) h = clash h refl
+refused-same s (Err r) h = same s
 
 -- a write that is neither refused nor a collision does not belong here
 collision-same : (s : Spi) (r : Register) (v : ℕ) → is_collision s r ≡ true → Same s (settled s (write_of s r v))
@@ -66,4 +66,4 @@ read_same s Ddrb = same s
 pub vector-same : (s : Spi) → Same s (next_of s vector)
 unfolding vector_of
 vector-same s =
-    pick_ind (λ (w : Written). Same s (settled s w)) (is_requested s) _ _ (λ _. record { control = refl; transfer = refl; pins = refl; down = λ _. refl }) (λ _. same s)
+    pick_ind (λ (w : Result Spi Refusal). Same s (settled s w)) (is_requested s) _ _ (λ _. record { control = refl; transfer = refl; pins = refl; down = λ _. refl }) (λ _. same s)

@@ -8,18 +8,20 @@ use lib.Dec.{eqb}
 use borrow.Author.Tests.{ne_eqb, not-true}
 use Rattle.choice.specs.Times.{times}
 use Rattle.choice.proofs.Picks.{split, clash}
-use Rattle.choice.proofs.TimesLaws.{times-one, times-fixed}
+use Rattle.choice.proofs.TimesLaws.{times-fixed, times-part}
+use Rattle.advance.specs.Passing.{PassedOn}
 use Rattle.shifter.specs.Exchange.{first_out}
 use Rattle.spi.specs.Control.{is_enabled, is_master, mode_of, is_mode_fault}
 use Rattle.spi.specs.Means.{differs, with_transfer, with_left, with_miso, with_sck}
 use Rattle.spi.specs.Transfer.{is_under_way, dropped_of}
 use Rattle.spi.specs.Unit.{output_of, requests_of}
 use Rattle.spi.specs.Clock.{master_of, master_clock, is_sck_edge, presented_of, selected_of, slave_of, by_mode_of, clock_of}
-use Rattle.spi.specs.Holding.{clock_at, held_of, is_presented, slave_rests, master_rests, step_rests, is_at_rest, stays_master, waits_for, counted_of, PassedOn}
+use Rattle.spi.specs.Holding.{clock_at, held_of, is_presented, slave_rests, master_rests, step_rests, is_at_rest, stays_master, waits_for, counted_of, with_spi, clocked}
 use Rattle.spi.specs.declared.clock.Levels.{Levels}
+use Rattle.spi.specs.declared.hold.Held.{Held}
 use Rattle.spi.specs.declared.transfer.Transfer.{Transfer}
 use Rattle.spi.specs.declared.unit.Spi.{Spi}
-use Rattle.spi.proofs.BusLaws.{same-level}
+use Rattle.spi.proofs.Differing.{same-level}
 use Rattle.spi.proofs.MasterLaws.{stays-clock}
 use Rattle.spi.proofs.Progress.{none-under-way}
 
@@ -93,13 +95,26 @@ waits-within s ss {k} e p =
     split (stays_master s.control ss) (λ m. (m, omega (arith, rw m at e)))
     (λ m. absurd (omega (arith, rw m at e)))
 
--- what `passed` makes of it
-module _ (s : Spi) (l : Levels) {n : ℕ} {t : Spi} where
-  pub passed-one : 1 ≤ n → t ≡ clock_of s l → PassedOn s l n (record { spi = t; clocks = record { 0 = 1 } })
-  passed-one h e = record { some = omega arith; few = h; spi = e ∙ sym (times-one (clock_at l) s) }
+-- a step of the unit with its levels is a clock, so that many are ..
+module _ (h : Held) where
+  held-steps : (n : ℕ) → times clocked n h ≡ with_spi h (held_of h.spi h.levels n)
+  held-steps n = times-part (clock_at h.levels) clocked (with_spi h) (λ s. refl) n h.spi
 
-  pub passed-many : (k : ℕ) → k ≡ waits_for s l.ss → 0 < k → k ≤ n → t ≡ counted_of s l.sck k
-      → PassedOn s l n (record { spi = t; clocks = record { 0 = k } })
-  passed-many zero q p h e = absurd (omega arith)
-  passed-many (suc k) q p h e =
-      let w = waits-within s l.ss q p in record { some = omega arith; few = h; spi = e ∙ sym (counts-held k s l w.0 w.1) }
+  -- .. and where it rests, it does with them
+  pub held-rests : {b : Bool} → b ≡ is_at_rest h.spi h.levels → b ≡ true → clocked h ≡ h
+  held-rests e r = ap (with_spi h) (rest-clock h.spi h.levels (sym e ∙ r))
+
+  -- what `counted` makes of it
+  pub held-many : {n k : ℕ} {s : Spi} → k ≡ waits_for h.spi h.levels.ss → 0 < k → k ≤ n
+      → s ≡ counted_of h.spi h.levels.sck k → PassedOn clocked h n k (with_spi h s)
+  held-many {n} {k = zero} q p le e = absurd (omega arith)
+  held-many {n} {k = suc k} q p le e =
+      let w = waits-within h.spi h.levels.ss q p in
+      let c = counts-held k h.spi h.levels w.0 w.1 in
+      record { some = omega arith; few = le; steps = ap (with_spi h) (e ∙ sym c) ∙ sym (held-steps (suc k)) }
+
+pub held-spi : (s : Spi) (l : Levels) (n : ℕ) (t : Held) → t ≡ times clocked n (record { spi = s; levels = l }) → t.spi ≡ held_of s l n
+held-spi s l n t e = ap (λ (t : Held). t.spi) (e ∙ held-steps (record { spi = s; levels = l }) n)
+
+-- what the proofs of a hold rest on
+pub ruleset holding = (held-spi, held-rests, held-many)

@@ -1,9 +1,9 @@
+pub mod Differing
 pub mod DivisorLaws
 pub mod ClockLaws
 pub mod EventLaws
 pub mod Progress
 pub mod DropLaws
-pub mod EdgeLaws
 pub mod MasterLaws
 pub mod WholeByte
 pub mod Transfers

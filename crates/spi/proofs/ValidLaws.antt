@@ -5,6 +5,7 @@ use mathlib.Core.Path.{◌≡◌, refl, sym, ap, ◌∙◌}
 use native.Mathlib.Omega.{arith}
 use lib.Dec.{eqb, ltb, lit<}
 use borrow.Author.Tests.{eqb-true, eqb-false, ltb-true, not-false}
+use Rattle.std.proofs.Common.{Result}
 use Rattle.choice.specs.Bit.{is_set}
 use Rattle.choice.proofs.Picks.{pick_ind, clash}
 use Rattle.shifter.specs.Exchange.{next_edge, edged_of}
@@ -26,11 +27,11 @@ use Rattle.spi.specs.declared.transfer.Transfer.{Transfer}
 use Rattle.spi.specs.declared.unit.Spi.{Spi}
 use Rattle.spi.specs.declared.register.Register.{Register}
 use Rattle.spi.specs.declared.register.Register.TheVariants.{Spcr, Spsr, Spdr, Ddrb}
-use Rattle.spi.specs.declared.register.Written.{Written}
 use Rattle.spi.proofs.DivisorLaws.{half-of}
 use Rattle.spi.proofs.ClockLaws.{shown_miso, presented-as}
 use Rattle.spi.proofs.PinLaws.{pins-idle, pins-flagged, pins-controlled, pins-waited, pins-master, pins-shown, pins-slave, pins-started}
 use Rattle.spi.proofs.Progress.{none-under-way}
+use Rattle.answer.specs.declared.Refusal.{Refusal}
 
 -- a transfer that is not under way fits any control
 valid-idle : (c : Control) (t : Transfer) → t.shift < 256 → t.received < 256 → t.edges ≡ 0 → t.left.0 ≡ 0 → ValidTransfer c t
@@ -186,7 +187,7 @@ module _ (s : Spi) (v : Valid s) where
   valid-spcr : (x : ℕ) → x < 256 → Valid (settled s (write_spcr s x))
   unfolding write_spcr divisor_number
   valid-spcr x h =
-      let P : Written → Type 0 = λ w. Valid (settled s w) in
+      let P : Result Spi Refusal → Type 0 = λ w. Valid (settled s w) in
       let c : Control = record { spcr = x; spi2x = s.control.spi2x; ddrb = s.control.ddrb } in
       pick_ind P (is_under_way s.transfer) _ _
       (λ _. pick_ind P (not (is_set x 64)) _ _
@@ -211,7 +212,7 @@ module _ (s : Spi) (v : Valid s) where
   valid-spsr : (x : ℕ) → Valid (settled s (write_spsr s x))
   unfolding write_spsr
   valid-spsr x =
-      let P : Written → Type 0 = λ w. Valid (settled s w) in
+      let P : Result Spi Refusal → Type 0 = λ w. Valid (settled s w) in
       pick_ind P (differs (is_set x 1) s.control.spi2x) _ _
       (λ _. pick_ind P (is_under_way s.transfer) _ _ (λ _. v)
       (λ e. valid-controlled _ v.spcr v.ddrb e)) (λ _. v)
@@ -267,7 +268,7 @@ valid-write s Spsr x h v = valid-spsr s v x
 valid-write s Spdr x h v = valid-loaded (accessed s) (flagged s v _) x h
 valid-write s Ddrb x h v = valid-ddrb s v x h
 
-pub valid-read : (s : Spi) (r : Register) → Valid s → Valid (read_of s r).spi
+pub valid-read : (s : Spi) (r : Register) → Valid s → Valid (read_of s r).after
 valid-read s Spcr v = v
 valid-read s Spsr v = flagged s v _
 valid-read s Spdr v = flagged s v _
@@ -275,4 +276,4 @@ valid-read s Ddrb v = v
 
 pub valid-vector : (s : Spi) → Valid s → Valid (settled s (vector_of s))
 unfolding vector_of
-valid-vector s v = pick_ind (λ (w : Written). Valid (settled s w)) (is_requested s) _ _ (λ _. flagged s v _) (λ _. v)
+valid-vector s v = pick_ind (λ (w : Result Spi Refusal). Valid (settled s w)) (is_requested s) _ _ (λ _. flagged s v _) (λ _. v)

@@ -5,21 +5,26 @@ use Rattle.shifter.specs.Exchange.{first_out, edged_of}
 use Rattle.shifter.specs.declared.Edged.{Edged}
 use Rattle.spi.specs.Flag.{raised_flags}
 use Rattle.spi.specs.Control.{is_enabled, is_master, cpol_of, mode_of, half, without_mstr, is_mode_fault}
-use Rattle.spi.specs.Means.{differs, with_transfer, with_left, with_miso, with_sck}
+use Rattle.spi.specs.Means.{differs, with_transfer, with_left, with_mosi, with_miso, with_sck}
 use Rattle.spi.specs.Transfer.{dropped_of, byte_of, edged_transfer, edged_flags, edged_out}
 use Rattle.spi.specs.declared.clock.Levels.{Levels}
 use Rattle.spi.specs.declared.unit.Spi.{Spi}
+
+-- an edge moves the transfer, with the clocks to the next one, and edge 16 sets SPIF
+abbrev pub after_edge : Spi → Edged → ℕ → Spi
+after_edge s e left =
+    record {
+      control = s.control;
+      transfer = edged_transfer s.transfer (record { 0 = left }) e;
+      flags = edged_flags s.flags e;
+      pins = s.pins;
+    }
 
 -- the master's next edge: MOSI is put out, MISO sampled; the edge after it is h clocks away
 abbrev pub master_edge : Spi → Bool → Spi
 master_edge s miso =
     let e : Edged = edged_of (mode_of s.control) (byte_of s.transfer s.pins.mosi) miso in
-    record {
-      control = s.control;
-      transfer = edged_transfer s.transfer (record { 0 = half s.control }) e;
-      flags = edged_flags s.flags e;
-      pins = record { mosi = edged_out e; miso = s.pins.miso; sck = s.pins.sck };
-    }
+    with_mosi (after_edge s e (half s.control)) (edged_out e)
 
 -- edge k of SCK comes on the k·h-th clock after the write
 unfoldable pub master_of : Spi → Bool → Spi
@@ -57,12 +62,7 @@ presented_of s =
 abbrev pub slave_edge : Spi → Bool → Spi
 slave_edge s mosi =
     let e : Edged = edged_of (mode_of s.control) (byte_of s.transfer s.pins.miso) mosi in
-    record {
-      control = s.control;
-      transfer = edged_transfer s.transfer (record { 0 = 0 }) e;
-      flags = edged_flags s.flags e;
-      pins = record { mosi = s.pins.mosi; miso = edged_out e; sck = s.pins.sck };
-    }
+    with_miso (after_edge s e 0) (edged_out e)
 
 -- a slave with SS low
 unfoldable pub selected_of : Spi → Levels → Spi

@@ -1,6 +1,6 @@
 -- Means of the statements, not rules: lists of clocks and register accesses on the SPI, the edges among them, and what
 -- leaves a byte under way alone.
-use Rattle.std.specs.Prelude.{ℕ, Bool, true, false, not, List, eqb}
+use Rattle.std.specs.Prelude.{ℕ, Bool, true, false, not, List, eqb, Err, Ok, Result}
 use Rattle.choice.specs.Pick.{pick}
 use Rattle.shifter.specs.Carrier as shifter
 use Rattle.spi.specs.Control.{is_master, cpol_of, is_mode_fault}
@@ -12,8 +12,7 @@ use Rattle.spi.specs.declared.control.Control.{Control}
 use Rattle.spi.specs.declared.unit.Spi.{Spi}
 use Rattle.spi.specs.declared.register.Register.{Register}
 use Rattle.spi.specs.declared.register.Register.TheVariants.{Spcr, Spsr, Spdr, Ddrb}
-use Rattle.spi.specs.declared.register.Written.{Written}
-use Rattle.spi.specs.declared.register.Written.TheVariants.{Done, Refused}
+use Rattle.answer.specs.declared.Refusal.{Refusal}
 
 -- a clock with the levels of the pins, a write, a read, or vector 1 taken
 pub data Event : Type 0 where
@@ -25,16 +24,16 @@ pub data Event : Type 0 where
 abbrev pub next_of : Spi → Event → Spi
 next_of s (clock l) = clock_of s l
 next_of s (write r v) = settled s (write_of s r v)
-next_of s (read r) = (read_of s r).spi
+next_of s (read r) = (read_of s r).after
 next_of s vector = settled s (vector_of s)
 
 -- SS as it has to be: no mode fault of a master, and low for a slave
 abbrev pub is_kept : Control → Levels → Bool
 is_kept c l = pick (is_master c) (not (is_mode_fault c l.ss)) (not l.ss)
 
-abbrev pub is_refused : Written → Bool
-is_refused (Done s) = false
-is_refused (Refused r) = true
+abbrev pub is_refused : Result Spi Refusal → Bool
+is_refused (Ok s) = false
+is_refused (Err r) = true
 
 -- a write of SPDR that finds a transfer under way
 abbrev pub is_collision : Spi → Register → Bool

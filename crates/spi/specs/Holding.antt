@@ -1,5 +1,5 @@
 -- Means, not rules: one level of each pin held for many clocks, and the unit at rest, which such clocks leave as it is.
-use Rattle.std.specs.Prelude.{ℕ, ◌-◌, ◌≤◌, Bool, true, false, not, ◌≡◌, eqb}
+use Rattle.std.specs.Prelude.{ℕ, ◌-◌, Bool, true, false, not, eqb}
 use Rattle.choice.specs.Pick.{pick}
 use Rattle.choice.specs.Times.{times}
 use Rattle.shifter.specs.Exchange.{first_out}
@@ -9,7 +9,7 @@ use Rattle.spi.specs.Transfer.{is_under_way}
 use Rattle.spi.specs.Clock.{clock_of}
 use Rattle.spi.specs.declared.clock.Levels.{Levels}
 use Rattle.spi.specs.declared.control.Control.{Control}
-use Rattle.spi.specs.declared.hold.Passed.{Passed}
+use Rattle.spi.specs.declared.hold.Held.{Held}
 use Rattle.spi.specs.declared.unit.Spi.{Spi}
 
 abbrev pub clock_at : Levels → Spi → Spi
@@ -52,8 +52,10 @@ waits_for s ss = pick (stays_master s.control ss) (s.transfer.left.0 - 1) 0
 abbrev pub counted_of : Spi → Bool → ℕ → Spi
 counted_of s sck k = with_sck (with_left s (record { 0 = s.transfer.left.0 - k })) sck
 
--- some of n clocks have passed
-pub record PassedOn (s : Spi) (l : Levels) (n : ℕ) (p : Passed) : Type 0 where
-  pub some : 1 ≤ p.clocks.0
-  pub few : p.clocks.0 ≤ n
-  pub spi : p.spi ≡ held_of s l p.clocks.0
+-- the levels that are held stay beside the unit ..
+abbrev pub with_spi : Held → Spi → Held
+with_spi h s = record { spi = s; levels = h.levels }
+
+-- .. and a step is a clock with them
+abbrev pub clocked : Held → Held
+clocked h = with_spi h (clock_of h.spi h.levels)

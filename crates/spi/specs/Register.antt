@@ -1,5 +1,5 @@
 -- Reads and writes of SPCR, SPSR, SPDR and DDRB, and vector 1 (document 01, 'Registers and their writes' and 'SPI').
-use Rattle.std.specs.Prelude.{ℕ, ◌+◌, ◌*◌, ◌%◌, Bool, not, eqb}
+use Rattle.std.specs.Prelude.{ℕ, ◌+◌, ◌*◌, ◌%◌, Bool, not, eqb, Err, Ok, Result}
 use Rattle.choice.specs.Pick.{pick, digit}
 use Rattle.choice.specs.Bit.{is_set}
 use Rattle.shifter.specs.Exchange.{first_out}
@@ -10,39 +10,38 @@ use Rattle.spi.specs.Means.{differs, with_control, with_transfer, with_flags, wi
 use Rattle.spi.specs.Unit.{is_requested}
 use Rattle.spi.specs.declared.flag.Flag.TheVariants.{Clear}
 use Rattle.spi.specs.declared.unit.Spi.{Spi}
-use Rattle.spi.specs.declared.register.Reading.{Reading}
 use Rattle.spi.specs.declared.register.Register.{Register}
 use Rattle.spi.specs.declared.register.Register.TheVariants.{Spcr, Spsr, Spdr, Ddrb}
 use Rattle.answer.specs.declared.Refusal.TheVariants.{UnderWay, Unrequested}
-use Rattle.spi.specs.declared.register.Written.{Written}
-use Rattle.spi.specs.declared.register.Written.TheVariants.{Done, Refused}
+use Rattle.answer.specs.declared.Refusal.{Refusal}
+use Rattle.answer.specs.declared.Reading.{Reading}
 
 -- a refused access leaves the unit as it was
-abbrev pub settled : Spi → Written → Spi
-settled s (Done t) = t
-settled s (Refused r) = s
+abbrev pub settled : Spi → Result Spi Refusal → Spi
+settled s (Ok t) = t
+settled s (Err r) = s
 
 -- SPCR with its new value
 abbrev pub set_spcr : Spi → ℕ → Spi
 set_spcr s v = with_control s (record { spcr = v; spi2x = s.control.spi2x; ddrb = s.control.ddrb })
 
 -- SPCR during a transfer: with SPE cleared the transfer is dropped; else a change in bits 5 to 0 is 4
-unfoldable pub write_spcr : Spi → ℕ → Written
+unfoldable pub write_spcr : Spi → ℕ → Result Spi Refusal
 write_spcr s v =
     pick (is_under_way s.transfer)
-    (pick (not (is_set v 64)) (Done (set_spcr (with_transfer s (dropped_of s.transfer)) v))
-    (pick (eqb (v % 64) (s.control.spcr % 64)) (Done (set_spcr s v)) (Refused UnderWay)))
-    (Done (set_spcr s v))
+    (pick (not (is_set v 64)) (Ok (set_spcr (with_transfer s (dropped_of s.transfer)) v))
+    (pick (eqb (v % 64) (s.control.spcr % 64)) (Ok (set_spcr s v)) (Err UnderWay)))
+    (Ok (set_spcr s v))
 
 abbrev pub set_spi2x : Spi → Bool → Spi
 set_spi2x s b = with_control s (record { spcr = s.control.spcr; spi2x = b; ddrb = s.control.ddrb })
 
 -- SPSR: only SPI2X (bit 0) is written; changing it during a transfer is 4
-unfoldable pub write_spsr : Spi → ℕ → Written
+unfoldable pub write_spsr : Spi → ℕ → Result Spi Refusal
 write_spsr s v =
     pick (differs (is_set v 1) s.control.spi2x)
-    (pick (is_under_way s.transfer) (Refused UnderWay) (Done (set_spi2x s (is_set v 1))))
-    (Done s)
+    (pick (is_under_way s.transfer) (Err UnderWay) (Ok (set_spi2x s (is_set v 1))))
+    (Ok s)
 
 -- a write of SPDR that is not taken only sets WCOL
 abbrev pub collided : Spi → Spi
@@ -75,24 +74,24 @@ write_spdr s v = loaded_of (accessed s) v
 abbrev pub set_ddrb : Spi → ℕ → Spi
 set_ddrb s v = with_control s (record { spcr = s.control.spcr; spi2x = s.control.spi2x; ddrb = v })
 
-abbrev pub write_of : Spi → Register → ℕ → Written
+abbrev pub write_of : Spi → Register → ℕ → Result Spi Refusal
 write_of s Spcr v = write_spcr s v
 write_of s Spsr v = write_spsr s v
-write_of s Spdr v = Done (write_spdr s v)
-write_of s Ddrb v = Done (set_ddrb s v)
+write_of s Spdr v = Ok (write_spdr s v)
+write_of s Ddrb v = Ok (set_ddrb s v)
 
 -- SPIF, WCOL and SPI2X
 abbrev pub spsr : Spi → ℕ
 spsr s = digit (is_up s.flags.spif) * 128 + digit (is_up s.flags.wcol) * 64 + digit s.control.spi2x
 
 -- reading SPSR arms; reading SPDR clears the armed ones and answers the receive buffer
-abbrev pub read_of : Spi → Register → Reading
-read_of s Spcr = record { value = s.control.spcr; spi = s }
-read_of s Spsr = record { value = spsr s; spi = with_flags s (armed_flags s.flags) }
-read_of s Spdr = record { value = s.transfer.received; spi = accessed s }
-read_of s Ddrb = record { value = s.control.ddrb; spi = s }
+abbrev pub read_of : Spi → Register → Reading Spi
+read_of s Spcr = record { value = s.control.spcr; after = s }
+read_of s Spsr = record { value = spsr s; after = with_flags s (armed_flags s.flags) }
+read_of s Spdr = record { value = s.transfer.received; after = accessed s }
+read_of s Ddrb = record { value = s.control.ddrb; after = s }
 
 -- vector 1 clears and disarms SPIF; without its request it is 8
-unfoldable pub vector_of : Spi → Written
+unfoldable pub vector_of : Spi → Result Spi Refusal
 vector_of s =
-    pick (is_requested s) (Done (with_flags s (record { spif = Clear; wcol = s.flags.wcol }))) (Refused Unrequested)
+    pick (is_requested s) (Ok (with_flags s (record { spif = Clear; wcol = s.flags.wcol }))) (Err Unrequested)

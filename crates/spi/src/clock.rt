@@ -1,11 +1,12 @@
 ghost use Rattle.std.specs.Prelude.{◌≡◌};
 ghost use Rattle.spi.specs.Means.{with_transfer, with_miso, with_sck};
+ghost use Rattle.spi.specs.Transfer.{edged_out};
 ghost use Rattle.spi.specs.Clock.{master_edge, master_of, master_clock, fault_of, is_sck_edge, presented_of};
-ghost use Rattle.spi.specs.Clock.{slave_edge, selected_of, slave_of, by_mode_of, clock_of};
+ghost use Rattle.spi.specs.Clock.{after_edge, slave_edge, selected_of, slave_of, by_mode_of, clock_of};
 
-use crate::divisor::{Clocks, half};
+use crate::divisor::half;
 use crate::transfer::Transfer;
-use crate::unit::{Pins, Spi, differs};
+use crate::unit::Spi;
 use shifter::{Edged, Shifter, next_edge};
 
 // The levels of the pins at a clock.
@@ -18,22 +19,50 @@ pub struct Levels {
 }
 
 // Whether SCK has an edge that counts: the first of a byte must be a leading one.
-#[tactic(auto, unfolding(crate::specs::Clock::is_sck_edge))]
+#[tactic(auto, using(crate::proofs::Differing::differs_ne), unfolding(crate::specs::Clock::is_sck_edge))]
 fn edge_seen(cpol: bool, edges: u8, last: bool, sck: bool) -> bool
     ensures { result ≡ is_sck_edge cpol edges last sck }
 {
-    if differs(sck, last) {
-        if edges == 0 {
-            return differs(sck, cpol);
-        }
-        return true;
+    sck != last && (edges != 0 || sck != cpol)
+}
+
+// The bit that is out after an edge.
+fn out_after(edge: Edged) -> bool
+    ensures { result ≡ edged_out edge }
+{
+    match edge {
+        Edged::Onward(next) => next.register.out,
+        Edged::Complete(last) => last.out,
     }
-    false
 }
 
 impl Spi {
+    // What an edge makes of transfer and flags, with the clocks to the next one.
+    fn after_edge(mut self, edge: Edged, left: u8) -> Spi
+        ensures { result ≡ after_edge self edge left }
+    {
+        // Written over the fields, as a master's edge is: a transfer and flags made anew cost more than the edge does.
+        match edge {
+            Edged::Onward(next) => {
+                self.transfer.shift = next.register.shift;
+                self.transfer.edges = next.edges;
+                self.transfer.left.0 = left;
+                self
+            }
+            Edged::Complete(last) => {
+                self.transfer.received = last.shift;
+                self.transfer.shift = last.shift;
+                self.transfer.edges = 0;
+                self.transfer.left.0 = 0;
+                self.flags = self.flags.raised();
+                self
+            }
+        }
+    }
+
     // Written over the fields, and not by `Exchange::edged`: in a run of a master every clock may be an edge, and
     // copies of the transfer cost more than the edge does.
+    #[tactic(auto, unfolding(shifter::specs::Exchange::edged_of))]
     fn master_edge(mut self, miso: bool) -> Spi
         ensures { result ≡ master_edge self miso }
     {
@@ -65,28 +94,25 @@ impl Spi {
     fn mastered(mut self, miso: bool) -> Spi
         ensures { result ≡ master_of self miso }
     {
-        let n = self.transfer.left.0;
-        if n == 0 {
-            return self;
+        match self.transfer.left.0 {
+            0 => self,
+            1 => self.master_edge(miso),
+            _ => {
+                self.transfer.left.0 -= 1;
+                self
+            }
         }
-        if n == 1 {
-            return self.master_edge(miso);
-        }
-        let m = n - 1;
-        self.transfer.left.0 = m;
-        self
     }
 
     // A mode fault makes the master a slave.
     fn faulted(self) -> Spi
         ensures { result ≡ fault_of self }
     {
-        let p = self.pins;
         Spi {
             control: self.control.slave(),
             transfer: self.transfer.dropped(),
             flags: self.flags.raised(),
-            pins: p,
+            ..self
         }
     }
 
@@ -102,56 +128,37 @@ impl Spi {
     fn presented(self) -> Spi
         ensures { result ≡ presented_of self }
     {
-        let m = self.control.mode();
-        if self.transfer.edges == 0 {
-            return self.with_miso(m.first_out(self.transfer.shift, self.pins.miso));
+        if self.transfer.edges != 0 {
+            return self;
         }
-        self
+        let mode = self.control.mode();
+        self.with_miso(mode.first_out(self.transfer.shift, self.pins.miso))
     }
 
     fn slave_edge(mut self, mosi: bool) -> Spi
         ensures { result ≡ slave_edge self mosi }
     {
-        let c = self.control;
-        let e = self.transfer.byte(self.pins.miso).edged(c.mode(), mosi);
-        match e {
-            Edged::Onward(x) => {
-                let r = x.register;
-                self.transfer.shift = r.shift;
-                self.transfer.edges = x.edges;
-                self.transfer.left.0 = 0;
-                self.pins.miso = r.out;
-                self
-            }
-            Edged::Complete(r) => {
-                let f = self.flags.raised();
-                let byte = r.shift;
-                self.transfer.received = byte;
-                self.transfer.shift = r.shift;
-                self.transfer.edges = 0;
-                self.transfer.left.0 = 0;
-                self.flags = f;
-                self.pins.miso = r.out;
-                self
-            }
-        }
+        let byte = self.transfer.byte(self.pins.miso);
+        let edge = byte.edged(self.control.mode(), mosi);
+        self.pins.miso = out_after(edge);
+        self.after_edge(edge, 0)
     }
 
     // A clock of the slave with SS low.
     #[tactic(auto, unfolding(crate::specs::Clock::selected_of))]
-    fn selected(self, l: Levels) -> Spi
-        ensures { result ≡ selected_of self l }
+    fn selected(self, levels: Levels) -> Spi
+        ensures { result ≡ selected_of self levels }
     {
-        let s = self.presented();
+        let shown = self.presented();
         if edge_seen(
             self.control.cpol(),
             self.transfer.edges,
             self.pins.sck,
-            l.sck,
+            levels.sck,
         ) {
-            return s.slave_edge(l.mosi);
+            return shown.slave_edge(levels.mosi);
         }
-        s
+        shown
     }
 
     pub fn with_transfer(mut self, t: Transfer) -> Spi
@@ -163,31 +170,29 @@ impl Spi {
 
     // A clock of the slave: SS high drops a partial byte.
     #[tactic(auto, unfolding(crate::specs::Clock::slave_of))]
-    fn slaved(self, l: Levels) -> Spi
-        ensures { result ≡ slave_of self l }
+    fn slaved(self, levels: Levels) -> Spi
+        ensures { result ≡ slave_of self levels }
     {
-        let dropped = self.with_transfer(self.transfer.dropped());
-        if l.ss {
-            return dropped;
+        if levels.ss {
+            return self.with_transfer(self.transfer.dropped());
         }
-        self.selected(l)
+        self.selected(levels)
     }
 
     #[tactic(auto, unfolding(crate::specs::Clock::by_mode_of))]
-    fn stepped(self, l: Levels) -> Spi
-        ensures { result ≡ by_mode_of self l }
+    fn stepped(self, levels: Levels) -> Spi
+        ensures { result ≡ by_mode_of self levels }
     {
         let c = self.control;
-        if c.enabled() {
-            if c.master() {
-                if c.mode_fault(l.ss) {
-                    return self.faulted();
-                }
-                return self.mastered(l.miso);
-            }
-            return self.slaved(l);
+        if !c.enabled() {
+            self
+        } else if !c.master() {
+            self.slaved(levels)
+        } else if c.mode_fault(levels.ss) {
+            self.faulted()
+        } else {
+            self.mastered(levels.miso)
         }
-        self
     }
 
     fn with_sck(mut self, sck: bool) -> Spi
@@ -198,16 +203,16 @@ impl Spi {
     }
 
     // One clock of a master that keeps it.
-    pub fn master_clock(self, l: Levels) -> Spi
-        ensures { result ≡ master_clock self l }
+    pub fn master_clock(self, levels: Levels) -> Spi
+        ensures { result ≡ master_clock self levels }
     {
-        self.mastered(l.miso).with_sck(l.sck)
+        self.mastered(levels.miso).with_sck(levels.sck)
     }
 
     // One clock, with the levels of the pins; that of SCK is kept at every clock.
-    pub fn clock(self, l: Levels) -> Spi
-        ensures { result ≡ clock_of self l }
+    pub fn clock(self, levels: Levels) -> Spi
+        ensures { result ≡ clock_of self levels }
     {
-        self.stepped(l).with_sck(l.sck)
+        self.stepped(levels).with_sck(levels.sck)
     }
 }

@@ -5,7 +5,7 @@ ghost use Rattle.spi.specs.Control.{is_mode_fault, keeps_master};
 use shifter::Mode;
 
 // SPCR, SPI2X of SPSR, and DDRB.
-#[derive(Clone, Copy)]
+#[derive(Clone, Copy, Default)]
 pub struct Control {
     pub spcr: u8,
     pub spi2x: bool,
@@ -50,17 +50,17 @@ impl Control {
         ensures { result ≡ divisor_number self }
     {
         if self.spi2x {
-            return 4 + self.spcr % 4;
+            4 + self.spcr % 4
+        } else {
+            self.spcr % 4
         }
-        self.spcr % 4
     }
 
     // MSTR cleared.
     pub fn slave(mut self) -> Control
         ensures { result ≡ without_mstr self }
     {
-        let next = self.spcr / 32 * 32 + self.spcr % 16;
-        self.spcr = next;
+        self.spcr = self.spcr / 32 * 32 + self.spcr % 16;
         self
     }
 
@@ -68,7 +68,7 @@ impl Control {
     pub fn ss_input(self) -> bool
         ensures { result ≡ is_input self }
     {
-        !(self.ddrb / 4 % 2 == 1)
+        self.ddrb / 4 % 2 != 1
     }
 
     // A mode fault, of a master: SS is an input and low.
@@ -76,10 +76,7 @@ impl Control {
     pub fn mode_fault(self, ss: bool) -> bool
         ensures { result ≡ is_mode_fault self ss }
     {
-        if self.ss_input() {
-            return !ss;
-        }
-        false
+        self.ss_input() && !ss
     }
 
     // SPE and MSTR are set and SS is an output, so that no mode fault can come.
@@ -87,11 +84,6 @@ impl Control {
     pub fn keeps_master(self) -> bool
         ensures { result ≡ keeps_master self }
     {
-        if self.enabled() {
-            if self.master() {
-                return !self.ss_input();
-            }
-        }
-        false
+        self.enabled() && self.master() && !self.ss_input()
     }
 }

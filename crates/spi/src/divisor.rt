@@ -2,7 +2,7 @@ ghost use Rattle.std.specs.Prelude.{◌≡◌};
 ghost use Rattle.spi.specs.Divisor.{half_of};
 
 // Clocks left until the next edge of SCK; 0 when none is due.
-#[derive(Clone, Copy)]
+#[derive(Clone, Copy, Default)]
 pub struct Clocks(pub u8);
 
 // Clocks a period of SCK, by SPI2X, SPR1 and SPR0 from 000 to 111.

@@ -3,14 +3,15 @@ ghost use Rattle.spi.specs.Flag.{is_up, raised_of, armed_of, cleared_of, raised_
 ghost use Rattle.spi.specs.Flag.{collided_flags};
 
 // A flag that a read of SPSR arms, and the SPDR access after it clears.
-#[derive(Clone, Copy)]
+#[derive(Clone, Copy, Default)]
 pub enum Flag {
+    #[default]
     Clear,
     Set,
     Armed,
 }
 
-#[derive(Clone, Copy)]
+#[derive(Clone, Copy, Default)]
 pub struct Flags {
     pub spif: Flag,
     pub wcol: Flag,
@@ -20,11 +21,7 @@ impl Flag {
     pub fn up(self) -> bool
         ensures { result ≡ is_up self }
     {
-        match self {
-            Flag::Clear => false,
-            Flag::Set => true,
-            Flag::Armed => true,
-        }
+        matches!(self, Flag::Set | Flag::Armed)
     }
 
     // Set; one that is armed stays armed.
@@ -32,8 +29,7 @@ impl Flag {
         ensures { result ≡ raised_of self }
     {
         match self {
-            Flag::Clear => Flag::Set,
-            Flag::Set => Flag::Set,
+            Flag::Clear | Flag::Set => Flag::Set,
             Flag::Armed => Flag::Armed,
         }
     }
@@ -43,8 +39,7 @@ impl Flag {
     {
         match self {
             Flag::Clear => Flag::Clear,
-            Flag::Set => Flag::Armed,
-            Flag::Armed => Flag::Armed,
+            Flag::Set | Flag::Armed => Flag::Armed,
         }
     }
 
@@ -53,9 +48,8 @@ impl Flag {
         ensures { result ≡ cleared_of self }
     {
         match self {
-            Flag::Clear => Flag::Clear,
             Flag::Set => Flag::Set,
-            Flag::Armed => Flag::Clear,
+            Flag::Clear | Flag::Armed => Flag::Clear,
         }
     }
 }
@@ -65,33 +59,27 @@ impl Flags {
     pub fn raised(self) -> Flags
         ensures { result ≡ raised_flags self }
     {
-        let a = self.spif;
-        let b = self.wcol;
         Flags {
-            spif: a.raised(),
-            wcol: b,
+            spif: self.spif.raised(),
+            ..self
         }
     }
 
     pub fn armed(self) -> Flags
         ensures { result ≡ armed_flags self }
     {
-        let a = self.spif;
-        let b = self.wcol;
         Flags {
-            spif: a.armed(),
-            wcol: b.armed(),
+            spif: self.spif.armed(),
+            wcol: self.wcol.armed(),
         }
     }
 
     pub fn cleared(self) -> Flags
         ensures { result ≡ cleared_flags self }
     {
-        let a = self.spif;
-        let b = self.wcol;
         Flags {
-            spif: a.cleared(),
-            wcol: b.cleared(),
+            spif: self.spif.cleared(),
+            wcol: self.wcol.cleared(),
         }
     }
 
@@ -99,10 +87,9 @@ impl Flags {
     pub fn collided(self) -> Flags
         ensures { result ≡ collided_flags self }
     {
-        let a = self.spif;
         Flags {
-            spif: a,
             wcol: Flag::Set,
+            ..self
         }
     }
 }

@@ -15,6 +15,6 @@ pub use clock::Levels;
 pub use control::Control;
 pub use divisor::{Clocks, half};
 pub use flag::{Flag, Flags};
-pub use register::{Reading, Register, Written};
+pub use register::Register;
 pub use transfer::Transfer;
 pub use unit::{Pins, Spi};

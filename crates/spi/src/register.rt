@@ -4,13 +4,11 @@ ghost use Rattle.spi.specs.Means.{with_flags, with_mosi};
 ghost use Rattle.spi.specs.Register.{set_spcr, write_spcr, set_spi2x, write_spsr, filled, started_of, loaded_of};
 ghost use Rattle.spi.specs.Register.{accessed, set_ddrb, write_of, spsr, read_of, vector_of};
 
-use crate::control::Control;
 use crate::divisor::{Clocks, half};
 use crate::flag::{Flag, Flags};
 use crate::transfer::Transfer;
-use crate::unit::{Pins, Spi, differs};
-use answer::Refusal;
-use choice::digit;
+use crate::unit::Spi;
+use answer::{Reading, Refusal};
 
 #[derive(Clone, Copy)]
 pub enum Register {
@@ -18,19 +16,6 @@ pub enum Register {
     Spsr,
     Spdr,
     Ddrb,
-}
-
-#[derive(Clone, Copy)]
-pub enum Written {
-    Done(Spi),
-    Refused(Refusal),
-}
-
-// What a read answers, and the unit after it.
-#[derive(Clone, Copy)]
-pub struct Reading {
-    pub value: u8,
-    pub spi: Spi,
 }
 
 impl Spi {
@@ -69,19 +54,18 @@ impl Spi {
     }
 
     #[tactic(auto, unfolding(crate::specs::Register::write_spcr))]
-    fn write_spcr(self, v: u8) -> Written
+    fn write_spcr(self, v: u8) -> Result<Spi, Refusal>
         ensures { result ≡ write_spcr self v }
     {
-        if self.transfer.under_way() {
-            if !(v / 64 % 2 == 1) {
-                return Written::Done(self.with_transfer(self.transfer.dropped()).set_spcr(v));
-            }
-            if v % 64 == self.control.spcr % 64 {
-                return Written::Done(self.set_spcr(v));
-            }
-            return Written::Refused(Refusal::UnderWay);
+        if !self.transfer.under_way() {
+            Ok(self.set_spcr(v))
+        } else if v / 64 % 2 != 1 {
+            Ok(self.with_transfer(self.transfer.dropped()).set_spcr(v))
+        } else if v % 64 == self.control.spcr % 64 {
+            Ok(self.set_spcr(v))
+        } else {
+            Err(Refusal::UnderWay)
         }
-        Written::Done(self.set_spcr(v))
     }
 
     fn set_spi2x(mut self, b: bool) -> Spi
@@ -91,18 +75,18 @@ impl Spi {
         self
     }
 
-    #[tactic(auto, using(shifter::proofs::Laws::odd_set), unfolding(crate::specs::Register::write_spsr))]
-    fn write_spsr(self, v: u8) -> Written
+    #[tactic(auto, using(crate::proofs::Differing::differs_ne), unfolding(crate::specs::Register::write_spsr))]
+    fn write_spsr(self, v: u8) -> Result<Spi, Refusal>
         ensures { result ≡ write_spsr self v }
     {
-        let b = v % 2 == 1;
-        if differs(b, self.control.spi2x) {
-            if self.transfer.under_way() {
-                return Written::Refused(Refusal::UnderWay);
-            }
-            return Written::Done(self.set_spi2x(b));
+        let spi2x = v % 2 == 1;
+        if spi2x == self.control.spi2x {
+            Ok(self)
+        } else if self.transfer.under_way() {
+            Err(Refusal::UnderWay)
+        } else {
+            Ok(self.set_spi2x(spi2x))
         }
-        Written::Done(self)
     }
 
     // The shift register filled, with n clocks to the first edge.
@@ -111,9 +95,9 @@ impl Spi {
     {
         self.with_transfer(Transfer {
             shift: v,
-            received: self.transfer.received,
             edges: 0,
             left: Clocks(n),
+            ..self.transfer
         })
     }
 
@@ -138,17 +122,15 @@ impl Spi {
     fn loaded(self, v: u8) -> Spi
         ensures { result ≡ loaded_of self v }
     {
-        let taken = self.filled(v, 0);
         if self.transfer.under_way() {
-            return self.with_flags(self.flags.collided());
+            self.with_flags(self.flags.collided())
+        } else if !self.control.enabled() {
+            self
+        } else if self.control.master() {
+            self.started(v)
+        } else {
+            self.filled(v, 0)
         }
-        if self.control.enabled() {
-            if self.control.master() {
-                return self.started(v);
-            }
-            return taken;
-        }
-        self
     }
 
     // An SPDR access clears the armed flags first.
@@ -165,14 +147,14 @@ impl Spi {
         self
     }
 
-    pub fn write(self, register: Register, v: u8) -> Written
+    pub fn write(self, register: Register, v: u8) -> Result<Spi, Refusal>
         ensures { result ≡ write_of self register v }
     {
         match register {
             Register::Spcr => self.write_spcr(v),
             Register::Spsr => self.write_spsr(v),
-            Register::Spdr => Written::Done(self.accessed().loaded(v)),
-            Register::Ddrb => Written::Done(self.set_ddrb(v)),
+            Register::Spdr => Ok(self.accessed().loaded(v)),
+            Register::Ddrb => Ok(self.set_ddrb(v)),
         }
     }
 
@@ -180,47 +162,44 @@ impl Spi {
         ensures { result ≡ spsr self }
     {
         let f = self.flags;
-        let a = f.spif;
-        let b = f.wcol;
-        digit(a.up()) * 128 + digit(b.up()) * 64 + digit(self.control.spi2x)
+        u8::from(f.spif.up()) * 128 + u8::from(f.wcol.up()) * 64 + u8::from(self.control.spi2x)
     }
 
-    pub fn read(self, register: Register) -> Reading
+    pub fn read(self, register: Register) -> Reading<Spi>
         ensures { result ≡ read_of self register }
     {
         match register {
             Register::Spcr => Reading {
                 value: self.control.spcr,
-                spi: self,
+                after: self,
             },
             Register::Spsr => Reading {
                 value: self.spsr(),
-                spi: self.with_flags(self.flags.armed()),
+                after: self.with_flags(self.flags.armed()),
             },
             Register::Spdr => Reading {
                 value: self.transfer.received,
-                spi: self.accessed(),
+                after: self.accessed(),
             },
             Register::Ddrb => Reading {
                 value: self.control.ddrb,
-                spi: self,
+                after: self,
             },
         }
     }
 
     // Vector 1 clears and disarms SPIF.
     #[tactic(auto, unfolding(crate::specs::Register::vector_of))]
-    pub fn take_vector(self) -> Written
+    pub fn take_vector(self) -> Result<Spi, Refusal>
         ensures { result ≡ vector_of self }
     {
-        let f = self.flags;
-        let b = f.wcol;
         if self.requested() {
-            return Written::Done(self.with_flags(Flags {
+            Ok(self.with_flags(Flags {
                 spif: Flag::Clear,
-                wcol: b,
-            }));
+                ..self.flags
+            }))
+        } else {
+            Err(Refusal::Unrequested)
         }
-        Written::Refused(Refusal::Unrequested)
     }
 }

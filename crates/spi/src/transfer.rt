@@ -6,7 +6,7 @@ use shifter::{Exchange, Shifter};
 
 // The shift register, the receive buffer, edges of the byte under way that have passed, and a master's clocks to the
 // next one.
-#[derive(Clone, Copy)]
+#[derive(Clone, Copy, Default)]
 pub struct Transfer {
     pub shift: u8,
     pub received: u8,
@@ -19,10 +19,7 @@ impl Transfer {
     pub fn under_way(self) -> bool
         ensures { result ≡ is_under_way self }
     {
-        if self.edges == 0 {
-            return !(self.left.0 == 0);
-        }
-        true
+        self.edges != 0 || self.left.0 != 0
     }
 
     // Dropped: the shift register stays as it stands.
@@ -30,10 +27,9 @@ impl Transfer {
         ensures { result ≡ dropped_of self }
     {
         Transfer {
-            shift: self.shift,
-            received: self.received,
             edges: 0,
             left: Clocks(0),
+            ..self
         }
     }
 
@@ -44,7 +40,7 @@ impl Transfer {
         Exchange {
             register: Shifter {
                 shift: self.shift,
-                out: out,
+                out,
             },
             edges: self.edges,
         }
