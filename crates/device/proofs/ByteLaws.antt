@@ -6,6 +6,7 @@ use mathlib.Core.Path.{◌≡◌, refl, sym, ap, ◌∙◌}
 use native.Mathlib.Omega.{arith}
 use lib.Dec.{eqb}
 use borrow.Author.Tests.{eqb-true, ne_eqb}
+use Rattle.std.proofs.Common.{None, Option, Some}
 use Rattle.choice.specs.Pick.{pick, digit}
 use Rattle.choice.proofs.Digits.{digit-le, digit-is}
 use Rattle.choice.proofs.Picks.{pick_ind}
@@ -17,7 +18,7 @@ use Rattle.usart.specs.declared.write.Register.TheVariants.{Ucsr0a, Ucsr0b, Ucsr
 use Rattle.spi.specs.Clock.{clock_of as spi_clock}
 use Rattle.spi.specs.Control.{is_enabled, is_master, drives}
 use Rattle.spi.specs.Unit.{sck_of, pin_of, output_of as spi_output, is_requested}
-use Rattle.spi.specs.declared.unit.Spi.{Spi}
+use Rattle.spi.specs.declared.unit.Spi.{Spi as SpiUnit}
 use Rattle.spi.specs.declared.register.Register.{Register as SpiRegister}
 use Rattle.spi.specs.declared.register.Register.TheVariants.{Spcr, Spsr, Spdr, Ddrb}
 use Rattle.device.specs.Address.{place_of, serial_address, spi_address, Addresses}
@@ -25,9 +26,9 @@ use Rattle.device.specs.Outcome.{value_of}
 use Rattle.device.specs.Unit.{reset_device, rxd_in, levels_in, clock_of, output_of, requests_of}
 use Rattle.device.specs.Bytes.{level_byte, LevelBits, mosi_driven, miso_driven, sck_driven, shown_as, OutputBits, RequestBits}
 use Rattle.device.specs.Register.{reset_reads, reset_in, reset_at, read_in, read_of}
-use Rattle.device.specs.declared.address.Place.{Place}
-use Rattle.device.specs.declared.address.Place.TheVariants.{Serial, Spi as SpiPlace, Nowhere}
 use Rattle.device.specs.declared.unit.Device.{Device}
+use Rattle.device.specs.declared.address.Place.{Place}
+use Rattle.device.specs.declared.address.Place.TheVariants.{Serial, Spi}
 
 -- a level as it is read in a bit
 level-is : (n : ℕ) (b : Bool) → n ≡ digit b → eqb n 1 ≡ b
@@ -83,7 +84,7 @@ pins true false true ddr3 ddr4 ddr5 mosi miso sck = refl
 pins true false false ddr3 ddr4 ddr5 mosi miso sck = let a = spi-pin ddr4 miso in omega arith
 pins false mstr ss ddr3 ddr4 ddr5 mosi miso sck = refl
 
-spi-bits : (s : Spi) (ss : Bool)
+spi-bits : (s : SpiUnit) (ss : Bool)
     → spi_output s ss
     ≡ 2 * shown_as (mosi_driven s) s.pins.mosi + 4 * shown_as (miso_driven s ss) s.pins.miso + 8 * shown_as (sck_driven s) (sck_of s)
     + 32 * digit (mosi_driven s) + 64 * digit (miso_driven s ss) + 128 * digit (sck_driven s)
@@ -92,7 +93,7 @@ spi-bits s ss =
     pins (is_enabled s.control) (is_master s.control) ss (drives s.control 8) (drives s.control 16) (drives s.control 32)
     s.pins.mosi s.pins.miso (sck_of s)
 
-eight-bits : (u : Usart) (s : Spi) (ss : Bool) → OutputBits (serial_output u + spi_output s ss) u s ss
+eight-bits : (u : Usart) (s : SpiUnit) (ss : Bool) → OutputBits (serial_output u + spi_output s ss) u s ss
 eight-bits u s ss =
     let x = serial-bits u in
     let y = spi-bits s ss in
@@ -116,7 +117,7 @@ eight-bits u s ss =
     }
 
 -- the level t that the SPI looks at is that of SS
-with-ss : (u : Usart) (s : Spi) (o : ℕ) (t ss : Bool) → o ≡ serial_output u + spi_output s t → t ≡ ss → OutputBits o u s ss
+with-ss : (u : Usart) (s : SpiUnit) (o : ℕ) (t ss : Bool) → o ≡ serial_output u + spi_output s t → t ≡ ss → OutputBits o u s ss
 with-ss u s o t ss h e = rw (h, e) (eight-bits u s ss)
 
 -- output byte: TxD, MOSI, MISO, SCK in bits 0 to 3, driven marks in 4 to 7; undriven shows 0
@@ -132,7 +133,7 @@ request-bits d =
     let e = digit-le (is_requested d.spi) in
     record { rxc = omega arith; udre = omega arith; txc = omega arith; spif = omega arith }
 
-serial-address : (r : SerialRegister) → place_of (serial_address r) ≡ Serial r
+serial-address : (r : SerialRegister) → place_of (serial_address r) ≡ Some (Serial r)
 unfolding place_of
 serial-address Ucsr0a = refl
 serial-address Ucsr0b = refl
@@ -141,14 +142,14 @@ serial-address Ubrr0l = refl
 serial-address Ubrr0h = refl
 serial-address Udr0 = refl
 
-spi-address : (r : SpiRegister) → place_of (spi_address r) ≡ SpiPlace r
+spi-address : (r : SpiRegister) → place_of (spi_address r) ≡ Some (Spi r)
 unfolding place_of
 spi-address Spcr = refl
 spi-address Spsr = refl
 spi-address Spdr = refl
 spi-address Ddrb = refl
 
-elsewhere : (a : ℕ) → ((r : SerialRegister) → a ≡ serial_address r → ⊥) → ((r : SpiRegister) → a ≡ spi_address r → ⊥) → place_of a ≡ Nowhere
+elsewhere : (a : ℕ) → ((r : SerialRegister) → a ≡ serial_address r → ⊥) → ((r : SpiRegister) → a ≡ spi_address r → ⊥) → place_of a ≡ None
 unfolding place_of
 elsewhere a n m =
     rw (
@@ -169,12 +170,12 @@ pub addresses : Addresses
 addresses = record { serial = serial-address; spi = spi-address; others = elsewhere }
 
 -- after reset UCSR0A is 0x20, UCSR0C 0x06, the rest 0: of an f that is so at each register, and 0 where there is none
-module _ (f : Place → ℕ) where
-  found : (a k : ℕ) (p q : Place) → f p ≡ reset_reads k → (eqb a k ≡ false → f q ≡ reset_reads a) → f (pick (eqb a k) p q) ≡ reset_reads a
-  found a k p q hp hq = pick_ind (λ (x : Place). f x ≡ reset_reads a) (eqb a k) p q (λ e. hp ∙ sym (ap reset_reads (eqb-true a k e))) hq
+module _ (f : Option Place → ℕ) where
+  found : (a k : ℕ) (p q : Option Place) → f p ≡ reset_reads k → (eqb a k ≡ false → f q ≡ reset_reads a) → f (pick (eqb a k) p q) ≡ reset_reads a
+  found a k p q hp hq = pick_ind (λ (x : Option Place). f x ≡ reset_reads a) (eqb a k) p q (λ e. hp ∙ sym (ap reset_reads (eqb-true a k e))) hq
 
-  reset-table : f (Serial Ucsr0a) ≡ 0x20 → f (Serial Ucsr0b) ≡ 0 → f (Serial Ucsr0c) ≡ 0x06 → f (Serial Ubrr0l) ≡ 0 → f (Serial Ubrr0h) ≡ 0
-      → f (Serial Udr0) ≡ 0 → f (SpiPlace Spcr) ≡ 0 → f (SpiPlace Spsr) ≡ 0 → f (SpiPlace Spdr) ≡ 0 → f (SpiPlace Ddrb) ≡ 0 → f Nowhere ≡ 0
+  reset-table : f (Some (Serial Ucsr0a)) ≡ 0x20 → f (Some (Serial Ucsr0b)) ≡ 0 → f (Some (Serial Ucsr0c)) ≡ 0x06 → f (Some (Serial Ubrr0l)) ≡ 0 → f (Some (Serial Ubrr0h)) ≡ 0
+      → f (Some (Serial Udr0)) ≡ 0 → f (Some (Spi Spcr)) ≡ 0 → f (Some (Spi Spsr)) ≡ 0 → f (Some (Spi Spdr)) ≡ 0 → f (Some (Spi Ddrb)) ≡ 0 → f None ≡ 0
       → (a : ℕ) → f (place_of a) ≡ reset_reads a
   unfolding place_of
   reset-table ucsr0a ucsr0b ucsr0c ubrr0l ubrr0h udr0 spcr spsr spdr ddrb nowhere a =
@@ -192,7 +193,7 @@ module _ (f : Place → ℕ) where
 
 -- every address reads so after reset
 pub reset-reads : (a : ℕ) → value_of (read_of reset_device a) ≡ reset_reads a
-reset-reads = reset-table (λ (p : Place). value_of (read_in reset_device p)) refl refl refl refl refl refl refl refl refl refl refl
+reset-reads = reset-table (λ (p : Option Place). value_of (read_in reset_device p)) refl refl refl refl refl refl refl refl refl refl refl
 
 pub reset-values : (a : ℕ) → reset_at a ≡ reset_reads a
 reset-values = reset-table reset_in refl refl refl refl refl refl refl refl refl refl refl

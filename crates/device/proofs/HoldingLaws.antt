@@ -2,7 +2,7 @@
 -- counter moves, and every valid device comes there.
 use Prim.Native.Nat.{ℕ, zero, suc, ◌+◌, ◌≤◌}
 use mathlib.Core.Bool.{true}
-use mathlib.Core.Path.{◌≡◌, refl, ap, ap₂, ◌∙◌}
+use mathlib.Core.Path.{◌≡◌, refl, sym, ap, ap₂, ◌∙◌}
 use native.Mathlib.Omega.{arith}
 use borrow.Author.Tests.{ne_eqb}
 use lib.ListN.{replicate}
@@ -27,6 +27,10 @@ pub held-units : (n : ℕ) (d : Device) (l : ℕ) → held_of d l n ≡ after_of
 unfolding times
 held-units zero d l = refl
 held-units (suc n) d l = held-units n (clock_of d l) l
+
+-- .. named for the code
+pub units_held : (n : ℕ) (d : Device) (l : ℕ) → after_of d (serial_held d.usart (rxd_in l) n) (spi_held d.spi (levels_in l) n) ≡ held_of d l n
+units_held n d l = sym (held-units n d l)
 
 -- a run of n equal level bytes
 pub held-ran : (n : ℕ) (d : Device) (l : ℕ) → held_of d l n ≡ ran_of d (replicate n l)

@@ -6,18 +6,15 @@ use native.Mathlib.Omega.{arith}
 use Rattle.usart.specs.Unit.{output_of as serial_output, requests_of as serial_requests}
 use Rattle.usart.specs.declared.unit.Usart.{Usart}
 use Rattle.usart.proofs.OutputLaws.{output-bits as serial-bits, requests-lt as serial-lt}
-use Rattle.spi.specs.Unit.{output_of as spi_output, requests_of as spi_requests}
+use Rattle.spi.specs.Unit.{output_of as spi_output}
 use Rattle.spi.specs.declared.unit.Spi.{Spi}
-use Rattle.spi.proofs.OutputLaws.{output-bits as spi-bits, requests-le as spi-le}
+use Rattle.spi.proofs.OutputLaws.{output-bits as spi-bits}
 use Rattle.device.specs.Unit.{txd_bits}
 use Rattle.device.specs.Unit.{levels_in, output_of, requests_of}
 use Rattle.device.specs.declared.unit.Device.{Device}
 
 pub output-fits : (u : Usart) (s : Spi) (ss : Bool) {a b : ℕ} → a ≡ serial_output u → b ≡ spi_output s ss → a + b < 256
 output-fits u s ss p q = let x = (serial-bits u).most in let y = (spi-bits s ss).most in omega (arith, p, q)
-
-pub requests-fit : (u : Usart) (s : Spi) {a b : ℕ} → a ≡ serial_requests u → b ≡ spi_requests s → a + b < 256
-requests-fit u s p q = let x = serial-lt u in let y = spi-le s in omega (arith, p, q)
 
 -- of a sum of the units' shares: level and mark of the one, even and without bit 4 the other
 side_by_side : (u s a b q r : ℕ) → u ≡ 16 * a + b → a ≤ 1 → b ≤ 1 → s ≡ 32 * q + 2 * r → r < 8 → txd_bits (u + s) ≡ u

@@ -1,24 +1,27 @@
 -- A run, unit by unit: the two never look at each other.
-use Prim.Native.Nat.{ℕ, zero, suc, ◌≤◌}
-use mathlib.Core.Bool.{false}
+use Prim.Native.Nat.{ℕ, zero, suc, ◌-◌, ◌<◌, ◌≤◌}
+use mathlib.Core.Bool.{true, false}
 use mathlib.Core.List.{List, [], ◌∷◌, ◌++◌}
 use mathlib.Core.Path.{◌≡◌, refl, sym, ap, ap₂, ◌∙◌}
 use native.Mathlib.Nat.{mod-eq_of_lt}
 use native.Mathlib.Omega.{arith}
 use lib.ListN.{length, get_or, replicate}
+use Rattle.std.proofs.Common.{None, Some}
+use Rattle.std.proofs.lemmas.Option.{get_or_from_slice_get, slice_get-get_or, slice_get_within}
+use Rattle.std.specs.List.{slice_get}
 use Rattle.usart.specs.Unit.{clock_of as serial_clock, output_of as serial_output}
 use Rattle.usart.specs.Counting.{quiet_of, counted_of}
 use Rattle.usart.specs.declared.unit.Usart.{Usart}
 use Rattle.usart.proofs.CountingLaws.{quiet-clock, quiet-after, counted_none, counted-more, output-counted}
-use Rattle.spi.specs.Control.{is_enabled}
+use Rattle.spi.specs.Control.{is_enabled, keeps_master}
 use Rattle.spi.specs.Unit.{output_of as spi_output}
-use Rattle.spi.specs.Clock.{clock_of as spi_clock}
+use Rattle.spi.specs.Clock.{clock_of as spi_clock, master_clock}
 use Rattle.spi.specs.Means.{with_sck}
 use Rattle.spi.specs.declared.clock.Levels.{Levels}
 use Rattle.spi.specs.declared.unit.Spi.{Spi}
-use Rattle.spi.proofs.MasterLaws.{off-clock, off-output}
+use Rattle.spi.proofs.MasterLaws.{off-clock, off-output, keeps-clock, keeps-step}
 use Rattle.device.specs.Unit.{rxd_in, levels_in, after_of, clock_of}
-use Rattle.device.specs.ByUnit.{serial_ran, serial_outputs, spi_ran, spi_outputs, sums_of}
+use Rattle.device.specs.ByUnit.{serial_ran, serial_outputs, spi_ran, spi_outputs, sums_of, ClocksAll}
 use Rattle.device.specs.Run.{ran_of, outputs_of}
 use Rattle.device.specs.declared.unit.Device.{Device}
 use Rattle.device.proofs.OutputLaws.{output-fits}
@@ -34,6 +37,18 @@ outputs-units d [] = refl
 outputs-units d (l ∷ ls) =
     let c : Device = clock_of d l in
     ap₂ (◌∷◌) (sym (mod-eq_of_lt (output-fits c.usart c.spi (levels_in l).ss refl refl))) (outputs-units c ls)
+
+-- the SPI's own clock makes each clock of a run, and a master's that of one which keeps it
+pub unit-clocks : (clocks : Spi → Levels → Spi → Type 0) → ((s : Spi) (l : Levels) (t : Spi) → clocks s l t → t ≡ spi_clock s l) → (s : Spi) (ls : List ℕ) → ClocksAll clocks s ls
+unit-clocks clocks k s [] = tt
+unit-clocks clocks k s (l ∷ ls) = (k s (levels_in l), unit-clocks clocks k (spi_clock s (levels_in l)) ls)
+
+pub master-clocks : (clocks : Spi → Levels → Spi → Type 0) → ((s : Spi) (l : Levels) (t : Spi) → clocks s l t → t ≡ master_clock s l) → (s : Spi) (ls : List ℕ)
+    → keeps_master s.control ≡ true → ClocksAll clocks s ls
+master-clocks clocks k s [] h = tt
+master-clocks clocks k s (l ∷ ls) h =
+    let e : spi_clock s (levels_in l) ≡ master_clock s (levels_in l) = keeps-clock s (levels_in l) h in
+    (λ (t : Spi) p. k s (levels_in l) t p ∙ sym e, master-clocks clocks k (spi_clock s (levels_in l)) ls (keeps-step s (levels_in l) h e).1)
 
 -- with SPE clear the SPI shows nothing, and keeps only the level of SCK
 pub outputs-off : (d : Device) (ls : List ℕ) → is_enabled d.spi.control ≡ false → outputs_of d ls ≡ serial_outputs d.usart ls
@@ -60,6 +75,20 @@ off-ran s (l ∷ m ∷ ms) (suc n) e off =
     ∙ off-ran c (m ∷ ms) n (omega (arith, e)) off
     ∙ off-clock c last off
     ∙ sym (off-clock s last off)
+
+pub off-last : (s : Spi) (ls : List ℕ) (l : ℕ) → slice_get ls (length ls - 1) ≡ Some l → is_enabled s.control ≡ false → spi_ran s ls ≡ with_sck s (levels_in l).sck
+off-last s ls l e off =
+    let k : length ls - 1 < length ls = slice_get_within ls _ l e in
+    let n : length ls ≡ suc (length ls - 1) = omega (arith, k) in
+    off-ran s ls (length ls - 1) n off
+    ∙ ap (λ (x : ℕ). spi_clock s (levels_in x)) (get_or_from_slice_get ls _ l 0 e)
+    ∙ off-clock s (levels_in l) off
+
+pub off-none : (s : Spi) (ls : List ℕ) → slice_get ls (length ls - 1) ≡ None → spi_ran s ls ≡ s
+unfolding spi_ran
+off-none s [] e = refl
+off-none s (l ∷ ls) e =
+    let x = slice_get-get_or (l ∷ ls) (length (l ∷ ls) - 1) 0 (omega arith) in cc
 
 -- clocks in a row
 pub serial-append : (u : Usart) (xs ys : List ℕ) → serial_ran u (xs ++ ys) ≡ serial_ran (serial_ran u xs) ys

@@ -1,10 +1,11 @@
 -- A means, no rule: a run unit by unit, as the code goes. That it comes to `ran_of` and `outputs_of` is in
 -- proofs/RunLaws.
-use Rattle.std.specs.Prelude.{ℕ, ◌+◌, ◌%◌, List, [], ◌∷◌}
+use Rattle.std.specs.Prelude.{ℕ, ◌+◌, ◌%◌, List, [], ◌∷◌, ◌≡◌}
 use Rattle.usart.specs.Unit.{clock_of as serial_clock, output_of as serial_output}
 use Rattle.usart.specs.declared.unit.Usart.{Usart}
 use Rattle.spi.specs.Unit.{output_of as spi_output}
 use Rattle.spi.specs.Clock.{clock_of as spi_clock}
+use Rattle.spi.specs.declared.clock.Levels.{Levels}
 use Rattle.spi.specs.declared.unit.Spi.{Spi}
 use Rattle.device.specs.Unit.{rxd_in, levels_in}
 
@@ -30,3 +31,11 @@ unfoldable pub sums_of : List ℕ → List ℕ → List ℕ
 sums_of [] ys = []
 sums_of (x ∷ xs) [] = []
 sums_of (x ∷ xs) (y ∷ ys) = (x + y) % 256 ∷ sums_of xs ys
+
+-- each clock of a run that is made by `clocks` leaves what `spi_clock` says: the first of s, and each other of what
+-- the one before leaves
+abbrev pub ClocksAll : (Spi → Levels → Spi → Type 0) → Spi → List ℕ → Type 0
+ClocksAll clocks s [] = Unit {0}
+ClocksAll clocks s (l ∷ ls) =
+    ((t : Spi) → clocks s (levels_in l) t → t ≡ spi_clock s (levels_in l))
+    × ClocksAll clocks (spi_clock s (levels_in l)) ls

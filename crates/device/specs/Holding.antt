@@ -5,7 +5,7 @@ use Rattle.choice.specs.Times.{times}
 use Rattle.usart.specs.Holding.{is_at_rest as serial_rests}
 use Rattle.spi.specs.Holding.{is_at_rest as spi_rests}
 use Rattle.device.specs.Unit.{rxd_in, levels_in, clock_of, output_of}
-use Rattle.device.specs.declared.unit.Clocked.{Clocked}
+use Rattle.answer.specs.declared.Reading.{Reading}
 use Rattle.device.specs.declared.unit.Device.{Device}
 
 abbrev pub clock_at : ℕ → Device → Device
@@ -24,8 +24,8 @@ last_of o (p ∷ ps) = last_of p ps
 unfoldable pub held_output : Device → ℕ → ℕ → ℕ
 held_output d level n = pick (eqb n 0) 0 (output_of (held_of d level n) level)
 
-abbrev pub hold_of : Device → ℕ → ℕ → Clocked
-hold_of d level n = record { device = held_of d level n; output = held_output d level n }
+abbrev pub hold_of : Device → ℕ → ℕ → Reading Device
+hold_of d level n = record { value = held_output d level n; after = held_of d level n }
 
 -- at rest at this level: nothing happens at a clock, but that the baud counter moves
 unfoldable pub is_at_rest : Device → ℕ → Bool

@@ -1,31 +1,29 @@
 -- What a call comes to, and its number (document 01, 'Numbers the rig sees').
-use Rattle.std.specs.Prelude.{ℕ}
+use Rattle.std.specs.Prelude.{ℕ, Err, Ok, Result}
 use Rattle.answer.specs.Number.{number_of}
-use Rattle.device.specs.declared.outcome.Written.{Written}
-use Rattle.device.specs.declared.outcome.Written.TheVariants.{Done, Refused}
-use Rattle.device.specs.declared.outcome.Reading.{Reading}
-use Rattle.device.specs.declared.outcome.Reading.TheVariants.{Done as Value, Refused as NoValue}
 use Rattle.device.specs.declared.unit.Device.{Device}
+use Rattle.answer.specs.declared.Refusal.{Refusal}
+use Rattle.answer.specs.declared.Reading.{Reading}
 
 -- 0: done
-abbrev pub answer_of : Written → ℕ
-answer_of (Done d) = 0
-answer_of (Refused r) = number_of r
+abbrev pub answer_of : Result Device Refusal → ℕ
+answer_of (Ok d) = 0
+answer_of (Err r) = number_of r
 
 -- a refusal leaves the device as it was
-abbrev pub settled : Device → Written → Device
-settled d (Done e) = e
-settled d (Refused r) = d
+abbrev pub settled : Device → Result Device Refusal → Device
+settled d (Ok e) = e
+settled d (Err r) = d
 
-abbrev pub read_answer_of : Reading → ℕ
-read_answer_of (Value v d) = 0
-read_answer_of (NoValue r) = number_of r
+abbrev pub read_answer_of : Result (Reading Device) Refusal → ℕ
+read_answer_of (Ok g) = 0
+read_answer_of (Err r) = number_of r
 
 -- a refused read answers 0
-abbrev pub value_of : Reading → ℕ
-value_of (Value v d) = v
-value_of (NoValue r) = 0
+abbrev pub value_of : Result (Reading Device) Refusal → ℕ
+value_of (Ok g) = g.value
+value_of (Err r) = 0
 
-abbrev pub read_settled : Device → Reading → Device
-read_settled d (Value v e) = e
-read_settled d (NoValue r) = d
+abbrev pub read_settled : Device → Result (Reading Device) Refusal → Device
+read_settled d (Ok g) = g.after
+read_settled d (Err r) = d

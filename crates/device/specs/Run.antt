@@ -1,11 +1,10 @@
 -- A run of clocks, a level byte and an output byte for each (document 01, 'Numbers the rig sees': for a run 5, 6, 7).
-use Rattle.std.specs.Prelude.{ℕ, Bool, true, false, List, [], ◌∷◌, eqb, ltb, length}
+use Rattle.std.specs.Prelude.{ℕ, Bool, true, false, List, [], ◌∷◌, eqb, ltb, length, Err, Ok, Result}
 use Rattle.answer.specs.declared.Refusal.TheVariants.{Length, Level}
 use Rattle.choice.specs.Pick.{pick}
 use Rattle.device.specs.Unit.{clock_of, output_of}
-use Rattle.device.specs.declared.outcome.Written.{Written}
-use Rattle.device.specs.declared.outcome.Written.TheVariants.{Done, Refused}
 use Rattle.device.specs.declared.unit.Device.{Device}
+use Rattle.answer.specs.declared.Refusal.{Refusal}
 
 -- the device after the run
 unfoldable pub ran_of : Device → List ℕ → Device
@@ -23,10 +22,10 @@ are_levels [] = true
 are_levels (l ∷ ls) = pick (ltb l 32) (are_levels ls) false
 
 -- 6 for the lengths, then 7 for the levels, before any clock passes
-abbrev pub run_of : Device → List ℕ → List ℕ → Written
-run_of d ls os = pick (eqb (length os) (length ls)) (pick (are_levels ls) (Done (ran_of d ls)) (Refused Level)) (Refused Length)
+abbrev pub run_of : Device → List ℕ → List ℕ → Result Device Refusal
+run_of d ls os = pick (eqb (length os) (length ls)) (pick (are_levels ls) (Ok (ran_of d ls)) (Err Level)) (Err Length)
 
 -- a refusal leaves the output slice untouched
-abbrev pub shown : List ℕ → List ℕ → Written → List ℕ
-shown os new (Done d) = new
-shown os new (Refused r) = os
+abbrev pub shown : List ℕ → List ℕ → Result Device Refusal → List ℕ
+shown os new (Ok d) = new
+shown os new (Err r) = os

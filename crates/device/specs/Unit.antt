@@ -10,7 +10,7 @@ use Rattle.spi.specs.Clock.{clock_of as spi_clock}
 use Rattle.spi.specs.declared.clock.Levels.{Levels}
 use Rattle.spi.specs.declared.unit.Spi.{Spi}
 use Rattle.device.specs.declared.unit.Device.{Device}
-use Rattle.device.specs.declared.unit.Clocked.{Clocked}
+use Rattle.answer.specs.declared.Reading.{Reading}
 
 abbrev pub reset_device : Device
 reset_device = record { usart = reset_usart; spi = reset_spi }
@@ -45,8 +45,8 @@ abbrev pub txd_bits : ℕ → ℕ
 txd_bits o = o % 2 + o / 16 % 2 * 16
 
 -- the output byte is that after the clock
-abbrev pub clocked_of : Device → ℕ → Clocked
-clocked_of d level = record { device = clock_of d level; output = output_of (clock_of d level) level }
+abbrev pub clocked_of : Device → ℕ → Reading Device
+clocked_of d level = record { value = output_of (clock_of d level) level; after = clock_of d level }
 
 -- requests: RXC with RXCIE, UDRE with UDRIE, TXC with TXCIE, SPIF with SPIE, bits 0 to 3 of the report
 abbrev pub requests_of : Device → ℕ

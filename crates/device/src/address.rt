@@ -8,7 +8,6 @@ use crate::unit::Device;
 pub enum Place {
     Serial(usart::Register),
     Spi(spi::Register),
-    Nowhere,
 }
 
 impl Device {
@@ -35,39 +34,23 @@ impl Device {
 }
 
 impl Place {
-    pub fn of(address: u16) -> Place
+    // No TryFrom: that would need an error type of its own, for an address that simply names nothing.
+    #[tactic(auto, unfolding(crate::specs::Address::place_of))]
+    pub fn of(address: u16) -> Option<Place>
         ensures { result ≡ place_of address }
     {
-        if address == Device::UCSR0A {
-            return Place::Serial(usart::Register::Ucsr0a);
+        match address {
+            Device::UCSR0A => Some(Place::Serial(usart::Register::Ucsr0a)),
+            Device::UCSR0B => Some(Place::Serial(usart::Register::Ucsr0b)),
+            Device::UCSR0C => Some(Place::Serial(usart::Register::Ucsr0c)),
+            Device::UBRR0L => Some(Place::Serial(usart::Register::Ubrr0l)),
+            Device::UBRR0H => Some(Place::Serial(usart::Register::Ubrr0h)),
+            Device::UDR0 => Some(Place::Serial(usart::Register::Udr0)),
+            Device::SPCR => Some(Place::Spi(spi::Register::Spcr)),
+            Device::SPSR => Some(Place::Spi(spi::Register::Spsr)),
+            Device::SPDR => Some(Place::Spi(spi::Register::Spdr)),
+            Device::DDRB => Some(Place::Spi(spi::Register::Ddrb)),
+            _ => None,
         }
-        if address == Device::UCSR0B {
-            return Place::Serial(usart::Register::Ucsr0b);
-        }
-        if address == Device::UCSR0C {
-            return Place::Serial(usart::Register::Ucsr0c);
-        }
-        if address == Device::UBRR0L {
-            return Place::Serial(usart::Register::Ubrr0l);
-        }
-        if address == Device::UBRR0H {
-            return Place::Serial(usart::Register::Ubrr0h);
-        }
-        if address == Device::UDR0 {
-            return Place::Serial(usart::Register::Udr0);
-        }
-        if address == Device::SPCR {
-            return Place::Spi(spi::Register::Spcr);
-        }
-        if address == Device::SPSR {
-            return Place::Spi(spi::Register::Spsr);
-        }
-        if address == Device::SPDR {
-            return Place::Spi(spi::Register::Spdr);
-        }
-        if address == Device::DDRB {
-            return Place::Spi(spi::Register::Ddrb);
-        }
-        Place::Nowhere
     }
 }

@@ -1,11 +1,13 @@
 ghost use Rattle.std.specs.Prelude.{◌≡◌};
 ghost use Rattle.device.specs.Holding.{held_of, hold_of};
 
-use crate::unit::{Clocked, Device, pin_levels};
+use crate::unit::{Device, pin_levels};
+use answer::Reading;
 use span::Span;
 
 impl Device {
     // Each unit by itself, as in a run.
+    #[tactic(auto, using(crate::proofs::HoldingLaws::units_held))]
     fn held(self, level: u8, n: Span) -> Device
         ensures { result ≡ held_of self level n.0 }
     {
@@ -15,20 +17,12 @@ impl Device {
     }
 
     // As many clocks, each with this level byte, and the output byte after the last; 0 for no clocks.
-    pub fn hold(self, level: u8, n: Span) -> Clocked
+    #[tactic(auto, unfolding(crate::specs::Holding::held_output))]
+    pub fn hold(self, level: u8, n: Span) -> Reading<Device>
         ensures { result ≡ hold_of self level n.0 }
     {
-        let d = self.held(level, n);
-        if n.0 == 0 {
-            return Clocked {
-                device: d,
-                output: 0,
-            };
-        }
-        let o = d.output(level);
-        Clocked {
-            device: d,
-            output: o,
-        }
+        let after = self.held(level, n);
+        let value = if n.0 == 0 { 0 } else { after.output(level) };
+        Reading { value, after }
     }
 }

@@ -4,12 +4,10 @@
 
 mod address;
 mod hold;
-mod outcome;
 mod run;
 mod serial_run;
 mod spi_run;
 mod unit;
 
 pub use address::Place;
-pub use outcome::{Reading, Written};
-pub use unit::{Clocked, Device, pin_levels};
+pub use unit::{Device, pin_levels};

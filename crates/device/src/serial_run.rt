@@ -1,55 +1,40 @@
 // The serial unit's part of a run: it writes the output bytes, for several clocks at once where they only count.
-ghost use Rattle.std.specs.Prelude.{◌≡◌, ◌++◌, ◌-◌, ◌<◌, ◌≤◌, length, take, drop, replicate};
+ghost use Rattle.std.specs.Prelude.{◌≡◌, ◌++◌, ◌<◌, ◌≤◌, length, take, drop, replicate};
 ghost use Rattle.device.specs.ByUnit.{serial_ran, serial_outputs};
 
+use advance::Passed;
 use span::Span;
 use usart::Usart;
 
-// Writes one output byte over outputs[from..to].
-fn fill(outputs: &mut [u8], from: usize, to: usize, output: u8)
-    requires from_le_to { from ≤ to }
-    requires to_in_bounds { to ≤ length outputs.old }
-    ensures outputs_len_unchanged { length outputs.new ≡ length outputs.old }
-    ensures outputs_after { take to outputs.new ≡ take from outputs.old ++ replicate (to - from) output }
+// The first n output bytes are `output`. Not by the slice's own `fill`, which stores the last byte by itself: with it
+// an idle run at UBRR 51 took 5 % more instructions.
+fn fill(outputs: &mut [u8], n: usize, output: u8)
+    requires { n ≤ length outputs.old }
+    ensures { take n outputs.new ≡ replicate n output }
 {
-    let mut i = from;
-    while i < to {
+    for i in 0..n {
         outputs[i] = output;
-        i += 1;
     }
 }
 
-// The serial unit after some clocks, and the place of the level byte that comes next.
-#[derive(Clone, Copy)]
-struct Passed {
-    pub usart: Usart,
-    pub place: usize,
-}
-
-// One clock, or as many as only count, from the level byte at place i.
-fn pass(u: Usart, levels: &[u8], outputs: &mut [u8], i: usize) -> Passed
-    requires i_in_bounds { i < length levels.now }
+// The first clock, or as many as only count.
+fn pass(u: Usart, levels: &[u8], outputs: &mut [u8]) -> Passed<Usart, Span>
+    requires some_levels { 0 < length levels.now }
     requires outputs_len { length outputs.old ≡ length levels.now }
-    ensures i_lt_place { (i < result.place) × (result.place ≤ length levels.now) }
-    ensures levels_value { serial_ran result.usart (drop result.place levels.now) ≡ serial_ran u (drop i levels.now) }
-    ensures outputs_len_unchanged { length outputs.new ≡ length outputs.old }
-    ensures levels_after { take result.place outputs.new ++ serial_outputs result.usart (drop result.place levels.now) ≡ take i outputs.old ++ serial_outputs u (drop i levels.now) }
+    ensures some_passed { (0 < result.steps.0) × (result.steps.0 ≤ length levels.now) }
+    ensures ran { serial_ran result.state (drop result.steps.0 levels.now) ≡ serial_ran u levels.now }
+    ensures shown { take result.steps.0 outputs.new ++ serial_outputs result.state (drop result.steps.0 levels.now) ≡ serial_outputs u levels.now }
 {
-    let q = u.skip(Span(levels.len() - i));
-    if q.clocks.0 == 0 {
-        let v = u.clock(levels[i] % 2 == 1);
-        outputs[i] = v.output();
-        return Passed {
-            usart: v,
-            place: i + 1,
-        };
+    let many = u.skip(Span(levels.len()));
+    if many.steps.0 > 0 {
+        fill(outputs, many.steps.0, u.output());
+        return many;
     }
-    let v = q.usart;
-    let place = i + q.clocks.0;
-    fill(outputs, i, place, u.output());
+    let v = u.clock(levels[0] % 2 == 1);
+    outputs[0] = v.output();
     Passed {
-        usart: v,
-        place: place,
+        state: v,
+        steps: Span(1),
     }
 }
 
@@ -60,10 +45,11 @@ pub(crate) fn serial_clocks(u: Usart, levels: &[u8], outputs: &mut [u8]) -> Usar
 {
     let mut state = u;
     let mut i = 0;
+    // As many clocks pass as `pass` says, so no step of a `for` or of chunks fits.
     while i < levels.len() {
-        let p = pass(state, levels, outputs, i);
-        state = p.usart;
-        i = p.place;
+        let passed = pass(state, &levels[i..], &mut outputs[i..]);
+        state = passed.state;
+        i += passed.steps.0;
     }
     state
 }

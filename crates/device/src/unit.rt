@@ -1,12 +1,10 @@
 ghost use Rattle.std.specs.Prelude.{◌≡◌};
 ghost use Rattle.device.specs.Unit.{reset_device, after_of, with_usart, with_spi, levels_in, output_of, requests_of};
 ghost use Rattle.device.specs.Unit.{split_votes};
-ghost use Rattle.device.specs.Register.{reset_at, serial_written, spi_written, write_of, serial_read, spi_read};
-ghost use Rattle.device.specs.Register.{read_of, vector_of};
+ghost use Rattle.device.specs.Register.{reset_at, write_of, read_of, vector_of};
 
 use crate::address::Place;
-use crate::outcome::{Reading, Written};
-use answer::Refusal;
+use answer::{Reading, Refusal};
 use spi::{Levels, Spi};
 use usart::Usart;
 
@@ -16,14 +14,8 @@ pub struct Device {
     pub spi: Spi,
 }
 
-// The device after a clock, and its output byte.
-#[derive(Clone, Copy)]
-pub struct Clocked {
-    pub device: Device,
-    pub output: u8,
-}
-
-// MISO, MOSI, SCK and SS in bits 1 to 4 of a level byte.
+// MISO, MOSI, SCK and SS in bits 1 to 4 of a level byte. Levels are spi's and bytes std's, so an `impl` of From here
+// would be of a foreign trait for foreign types.
 pub fn pin_levels(level: u8) -> Levels
     ensures { result ≡ levels_in level }
 {
@@ -49,11 +41,10 @@ impl Device {
     pub fn reset_value(address: u16) -> u8
         ensures { result ≡ reset_at address }
     {
-        let p = Place::of(address);
-        match p {
-            Place::Serial(r) => Usart::reset_value(r),
-            Place::Spi(r) => Spi::reset_value(r),
-            Place::Nowhere => 0,
+        match Place::of(address) {
+            Some(Place::Serial(r)) => Usart::reset_value(r),
+            Some(Place::Spi(r)) => Spi::reset_value(r),
+            None => 0,
         }
     }
 
@@ -67,15 +58,13 @@ impl Device {
     fn with_usart(self, u: Usart) -> Device
         ensures { result ≡ with_usart self u }
     {
-        let s = self.spi;
-        self.after(u, s)
+        self.after(u, self.spi)
     }
 
     fn with_spi(self, s: Spi) -> Device
         ensures { result ≡ with_spi self s }
     {
-        let u = self.usart;
-        self.after(u, s)
+        self.after(self.usart, s)
     }
 
     // The output byte, with the level byte of this clock: only SS is looked at.
@@ -85,71 +74,48 @@ impl Device {
         self.usart.output() + self.spi.output(level / 16 % 2 == 1)
     }
 
-    fn serial_written(self, w: usart::Written) -> Written
-        ensures { result ≡ serial_written self w }
-    {
-        match w {
-            usart::Written::Done(u) => Written::Done(self.with_usart(u)),
-            usart::Written::Refused(r) => Written::Refused(r),
-        }
-    }
-
-    fn spi_written(self, w: spi::Written) -> Written
-        ensures { result ≡ spi_written self w }
-    {
-        match w {
-            spi::Written::Done(s) => Written::Done(self.with_spi(s)),
-            spi::Written::Refused(r) => Written::Refused(r),
-        }
-    }
-
-    pub fn write(self, address: u16, value: u8) -> Written
+    pub fn write(self, address: u16, value: u8) -> Result<Device, Refusal>
         ensures { result ≡ write_of self address value }
     {
-        let p = Place::of(address);
-        match p {
-            Place::Serial(r) => self.serial_written(self.usart.write(r, value)),
-            Place::Spi(r) => self.spi_written(self.spi.write(r, value)),
-            Place::Nowhere => Written::Refused(Refusal::Unknown),
+        match Place::of(address) {
+            Some(Place::Serial(r)) => Ok(self.with_usart(self.usart.write(r, value)?)),
+            Some(Place::Spi(r)) => Ok(self.with_spi(self.spi.write(r, value)?)),
+            None => Err(Refusal::Unknown),
         }
     }
 
-    fn serial_read(self, g: usart::Reading) -> Reading
-        ensures { result ≡ serial_read self g }
-    {
-        let u = g.usart;
-        Reading::Done(g.value, self.with_usart(u))
-    }
-
-    fn spi_read(self, g: spi::Reading) -> Reading
-        ensures { result ≡ spi_read self g }
-    {
-        let s = g.spi;
-        Reading::Done(g.value, self.with_spi(s))
-    }
-
-    pub fn read(self, address: u16) -> Reading
+    pub fn read(self, address: u16) -> Result<Reading<Device>, Refusal>
         ensures { result ≡ read_of self address }
     {
-        let p = Place::of(address);
-        match p {
-            Place::Serial(r) => self.serial_read(self.usart.read(r)),
-            Place::Spi(r) => self.spi_read(self.spi.read(r)),
-            Place::Nowhere => Reading::Refused(Refusal::Unknown),
+        match Place::of(address) {
+            Some(Place::Serial(r)) => {
+                let serial = self.usart.read(r);
+                Ok(Reading {
+                    value: serial.value,
+                    after: self.with_usart(serial.after),
+                })
+            }
+            Some(Place::Spi(r)) => {
+                let spi = self.spi.read(r);
+                Ok(Reading {
+                    value: spi.value,
+                    after: self.with_spi(spi.after),
+                })
+            }
+            None => Err(Refusal::Unknown),
         }
     }
 
     // Vector 0 is TXC's, vector 1 SPIF's.
-    pub fn take_vector(self, vector: u8) -> Written
+    #[tactic(auto, unfolding(crate::specs::Register::vector_of))]
+    pub fn take_vector(self, vector: u8) -> Result<Device, Refusal>
         ensures { result ≡ vector_of self vector }
     {
-        if vector == 0 {
-            return self.serial_written(self.usart.take_vector());
+        match vector {
+            0 => Ok(self.with_usart(self.usart.take_vector()?)),
+            1 => Ok(self.with_spi(self.spi.take_vector()?)),
+            _ => Err(Refusal::Unknown),
         }
-        if vector == 1 {
-            return self.spi_written(self.spi.take_vector());
-        }
-        Written::Refused(Refusal::Unknown)
     }
 
     // Requests: RXC, UDRE, TXC and SPIF, each with its enable, in bits 0 to 3.

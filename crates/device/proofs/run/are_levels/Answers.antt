@@ -1,22 +1,12 @@
-use Rattle.std.proofs.Common.{◌≡◌, ◌<◌, ℕ, List, false, refl, sym, ap, ◌∙◌, arith, length}
-use Rattle.choice.specs.Pick.{pick}
-use Rattle.choice.proofs.Picks.{pick-self}
+use Rattle.std.proofs.Common.{rules, ◌≡◌, ℕ, Bool, List, true, ltb, ◌&&◌, refl, sym, ap, ◌∙◌}
+use Rattle.std.proofs.lemmas.Fn.{fold_over, fronts, slice_gives}
 use Rattle.device.specs.Run.{are_levels}
-use Rattle.device.proofs.LoopLaws.{level-on, none_left}
+use Rattle.device.proofs.LoopLaws.{level-more}
 use Rattle.device.proofs.run.are_levels.Goals as goal
-
-pub loop-i-preserved : goal.loop-i-preserved
-loop-i-preserved c =
-    let l = c.args.levels.now in
-    let h : c.loop-i.i < length l = omega arith in
-    (omega arith, level-on l c.loop-i.i h c.loop-i.low _ _ _ refl refl c.loop-i.invariant.1)
 
 pub returns : goal.returns
 unfolding are_levels
 returns c =
-    let at = c.loop-i in
-    let l = c.args.levels.now in
-    let end : at.i ≡ length l = omega arith in
-    sym (pick-self at.low)
-    ∙ sym (ap (λ (x : List ℕ). pick at.low (are_levels x) false) (none_left l at.i end))
-    ∙ at.invariant.1
+    fold_over fronts (λ y. y.now) _ (λ (ls : List ℕ) (low : Bool). low ≡ are_levels ls) _
+    (λ ls low x b f' j k. let e : b ≡ (low && ltb x.now 32) = search rules in (e ∙ ap (λ (t : Bool). t && ltb x.now 32) j ∙ sym (level-more ls x.now), refl))
+    c.iter.result c.args.levels.now true c.fold.result (search (rules, slice_gives)) refl c.fold.ensures.ran

@@ -1,23 +1,17 @@
-use Rattle.std.proofs.Common.{◌≡◌, ℕ, List, ◌++◌, sym, ap, ◌∙◌, arith, length, take}
-use Rattle.device.specs.ByUnit.{serial_ran, serial_outputs}
-use Rattle.device.proofs.LoopLaws.{none_left, all-taken}
+use Rattle.std.proofs.Common.{ap, ◌∙◌, arith, length, length-drop}
+use Rattle.std.proofs.lemmas.Slice.{between_to_end}
+use Rattle.device.proofs.LoopLaws.{serial-turn, serial-done}
 use Rattle.device.proofs.serial_run.serial_clocks.Goals as goal
 
-pub returns-clause-value : goal.returns-clause-value
-unfolding serial_ran
-returns-clause-value c =
+pub loop-i-preserved : goal.loop-i-preserved
+loop-i-preserved c =
     let at = c.loop-i in
-    let l = c.args.levels.now in
-    let end : at.i ≡ length l = omega arith in
-    sym (ap (serial_ran at.state) (none_left l at.i end)) ∙ at.invariant.1.1.0
+    let p = c.pass-passed in
+    let long = p.auto.outputs ∙ ap length (between_to_end at.outputs at.i _ (omega arith)) ∙ length-drop at.i at.outputs in
+    serial-turn at.invariant _ _ _ _ (between_to_end c.args.levels.now at.i _ (omega arith)) p.ensures.some_passed.1 long p.ensures.ran p.ensures.shown
+
+pub returns-clause-value : goal.returns-clause-value
+returns-clause-value c = (serial-done c.loop-i.invariant (omega arith)).0
 
 pub returns-clause-outputs_after : goal.returns-clause-outputs_after
-unfolding serial_outputs
-returns-clause-outputs_after c =
-    let at = c.loop-i in
-    let l = c.args.levels.now in
-    let end : at.i ≡ length l = omega arith in
-    let end' : at.i ≡ length at.outputs = omega arith in
-    sym (all-taken at.outputs at.i end')
-    ∙ sym (ap (λ (x : List ℕ). take at.i at.outputs ++ serial_outputs at.state x) (none_left l at.i end))
-    ∙ at.invariant.1.1.1
+returns-clause-outputs_after c = (serial-done c.loop-i.invariant (omega arith)).1

@@ -1,16 +1,19 @@
-use Rattle.std.proofs.Common.{◌≡◌, ◌-◌, sym, ap, ◌∙◌, arith, length}
-use Prim.Native.Nat.{suc}
-use Rattle.spi.specs.Clock.{clock_of}
-use Rattle.device.proofs.RunLaws.{off-ran}
-use Rattle.device.proofs.LoopLaws.{no-clocks}
+use Rattle.std.proofs.Common.{◌≡◌, ◌-◌, sym, ap, ◌∙◌, length, Some}
+use Rattle.std.specs.List.{slice_get}
+use Rattle.std.specs.Option.{option_copied}
+use Rattle.spi.specs.Means.{with_sck}
+use Rattle.spi.specs.declared.clock.Levels.{Levels}
+use Rattle.device.proofs.RunLaws.{off-last, off-none}
 use Rattle.device.proofs.spi_run.off_clocks.Goals as goal
 
-pub returns-then-n-eq0 : goal.returns-then-n-eq0
-returns-then-n-eq0 c = no-clocks _ _ c.if-n-eq0.true
-
-pub returns : goal.returns
-returns c =
+pub returns-in-Some : goal.returns-in-Some
+returns-in-Some c =
     let a = c.args in
     let l = a.levels.now in
-    let e : length l ≡ suc (length l - 1) = omega arith in
-    c.clock.ensures ∙ ap (clock_of a.s) c.pin_levels.ensures ∙ sym (off-ran a.s l (length l - 1) e c.requires)
+    let e : slice_get l (length l - 1) ≡ Some c.in-Some.level.now = sym c.last.ensures.value ∙ ap option_copied c.in-Some.is in
+    ap (λ (x : Levels). with_sck a.s x.sck) c.pin_levels.ensures ∙ sym (off-last a.s l _ e c.requires)
+
+pub returns-in-None : goal.returns-in-None
+returns-in-None c =
+    let a = c.args in
+    sym (off-none a.s a.levels.now (sym c.last.ensures.value ∙ ap option_copied c.in-None.is))
