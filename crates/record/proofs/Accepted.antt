@@ -5,6 +5,7 @@ use mathlib.Core.Bool.{Bool, true, false}
 use mathlib.Core.List.{List, [], ◌∷◌, ◌++◌, map}
 use mathlib.Core.Path.{◌≡◌, refl}
 use lib.ListN.{set}
+use Rattle.std.proofs.Common.{Ok}
 use Rattle.choice.specs.Pick.{pick}
 use Rattle.frame.specs.Parity.{sum_of_bits}
 use Rattle.usart.specs.Settings.{size_of, parity_of}
@@ -20,10 +21,9 @@ use Rattle.record.specs.Accepts.{is_within, counter_fits, buffer_fits, shifter_f
 use Rattle.record.specs.Accepts.{out_fits, master_fits, slave_fits, spi_fits, accepts, is_record}
 use Rattle.record.specs.Codec.{record_of, decode_of}
 use Rattle.record.specs.InPlace.{advanced_over}
-use Rattle.record.specs.declared.codec.Decoded.TheVariants.{Accepted}
 
 -- the record of a device after reset is accepted as that device
-pub reset-accepted : decode_of (record_of reset_device) ≡ Accepted reset_device
+pub reset-accepted : decode_of (record_of reset_device) ≡ Ok reset_device
 unfolding record_of decode_of size_of parity_of flag_of buffer_from shifter_from sampler_from places_from is_within counter_fits buffer_fits shifter_fits sampler_fits places_fit waiting_fits enabled_fits usart_fits spi_fits accepts is_record
 reset-accepted = refl
 

@@ -7,8 +7,9 @@ use native.Mathlib.Omega.{arith}
 use lib.Dec.{eqb, leb}
 use lib.ListN.{length, get_or}
 use borrow.Author.Tests.{eqb-true, leb-true, not-true}
+use Rattle.std.proofs.Common.{Err, Ok, Result}
 use Rattle.choice.specs.Pick.{pick}
-use Rattle.choice.proofs.Picks.{both}
+use Rattle.choice.proofs.Picks.{pick_true, pick-false, split, both}
 use Rattle.usart.specs.Settings.{size_of, is_known}
 use Rattle.usart.specs.Sender.{is_vacant, is_resting}
 use Rattle.usart.specs.Sampler.{is_receiving}
@@ -16,18 +17,22 @@ use Rattle.usart.specs.Valid.{Valid as ValidUsart}
 use Rattle.usart.specs.declared.sender.Transmission.{Transmission}
 use Rattle.usart.specs.declared.sampler.Reception.{Reception}
 use Rattle.device.specs.Valid.{Valid}
+use Rattle.device.specs.declared.unit.Device.{Device}
 use Rattle.record.specs.Layout.{most, record_length, layout_byte, layout_number, ucsr0a_byte, ucsr0b_byte, ucsr0c_byte, byte_at, word_at, triple_at, set_at, low, high}
 use Rattle.record.specs.Layout.{sending_byte, receiving_byte, last_byte, full_byte, data_byte, held_byte, waits_byte, lost_byte, oldest_byte, next_byte, third_byte}
 use Rattle.record.specs.Codes.{size_code, flag_code, flag_of}
 use Rattle.record.specs.Parts.{buffer_data, transmission_in, remembered_in, reception_in}
 use Rattle.record.specs.Image.{bit, image_of}
 use Rattle.record.specs.Lift.{baud_at, format_at, control_at, buffer_at, transmission_at, shifter_at, reception_at, sampler_at, frame_at, places_at, usart_at, spi_at, device_at}
-use Rattle.record.specs.Accepts.{is_within, settings_fit, counter_fits, buffer_fits, shifter_fits, sampler_fits, places_fit, waiting_fits, enabled_fits, usart_fits, spi_fits, accepts}
+use Rattle.record.specs.Accepts.{is_within, settings_fit, counter_fits, buffer_fits, shifter_fits, sampler_fits, places_fit, waiting_fits, enabled_fits, usart_fits, spi_fits, accepts, is_record}
+use Rattle.record.specs.Codec.{decode_of}
 use Rattle.record.proofs.ListLaws.{and_both}
 use Rattle.record.proofs.RegisterLaws.{a_again, b-again, c-again}
 use Rattle.record.proofs.TestLaws.{counter-valid, buffer-valid, buffer-shown, shifter-valid, shifter-shown, sampler-valid, sampler-shown}
 use Rattle.record.proofs.QueueLaws.{FrameBytes, places-valid, PlacesShown, places-shown, waiting-valid, enabled-valid}
 use Rattle.record.proofs.SpiTestLaws.{spi-valid}
+use Rattle.answer.specs.declared.Refusal.{Refusal}
+use Rattle.answer.specs.declared.Refusal.TheVariants.{Record}
 
 -- no byte is above its limit
 pub within-at : (xs ms : List ℕ) → is_within xs ms ≡ true → (i : ℕ) → i < length ms → get_or xs i 0 ≤ get_or ms i 0
@@ -273,3 +278,10 @@ module _ (s : List ℕ) (h : accepts s ≡ true) where
 
   pub image-again : length s ≡ record_length → image_of (device_at s) ≡ s
   image-again n = same_lists _ _ image-same ∙ sym (ap (listed x) n) ∙ listed-again s
+
+-- whatever is refused is refused for its bytes
+pub refused-record : (s : List ℕ) (r : Refusal) → decode_of s ≡ Err r → ◌≡◌ {A = Result Device Refusal} (Err r) (Err Record)
+unfolding decode_of
+refused-record s r h = split (is_record s)
+    (λ e. absurd (let a : Ok (device_at s) ≡ Err r = pick_true _ _ _ _ e refl ∙ h in let z : ◌≡◌ {A = ℕ} 0 1 = cc in omega arith))
+    (λ e. sym h ∙ sym (pick-false _ _ _ _ e refl))

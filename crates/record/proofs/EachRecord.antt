@@ -4,13 +4,13 @@ use mathlib.Core.Bool.{true, false}
 use mathlib.Core.List.{List}
 use mathlib.Core.Path.{◌≡◌, refl, sym, ap, subst, ◌∙◌}
 use native.Mathlib.Omega.{arith}
+use Rattle.std.proofs.Common.{Ok, Some}
 use Rattle.choice.proofs.Picks.{split, clash}
 use Rattle.frame.specs.Format.{first_vote}
 use Rattle.frame.specs.Word.{word_of, parity_error}
 use Rattle.frame.proofs.WordLaws.{frame-parity}
 use Rattle.usart.specs.Valid.{voted_bits, ValidShifter, ValidSampler, is_in_shift}
 use Rattle.usart.specs.declared.sender.Transmission.{Transmission}
-use Rattle.usart.specs.declared.sender.ShiftRegister.TheVariants.{Sending}
 use Rattle.usart.specs.declared.sampler.Reception.{Reception}
 use Rattle.usart.specs.declared.sampler.Sampler.{Sampler}
 use Rattle.usart.specs.declared.sampler.Sampler.TheVariants.{Receiving}
@@ -24,21 +24,20 @@ use Rattle.device.specs.Valid.{Valid}
 use Rattle.device.specs.declared.unit.Device.{Device}
 use Rattle.record.specs.Parts.{reception_in, held_count, second_in, is_waiting, third_in}
 use Rattle.record.specs.Codec.{decode_of}
-use Rattle.record.specs.declared.codec.Decoded.TheVariants.{Accepted}
 use Rattle.record.proofs.LiftLaws.{valid-oldest, valid-second, valid-third}
 use Rattle.record.proofs.QueueLaws.{none-voted}
 use Rattle.record.proofs.Round.{decode-valid}
 
-module _ (s : List ℕ) (d : Device) (h : decode_of s ≡ Accepted d) where
+module _ (s : List ℕ) (d : Device) (h : decode_of s ≡ Ok d) where
   v : Valid d
   v = decode-valid s d h
 
   -- a frame in the shifter is the frame of its data
-  pub sent-frame : (t : Transmission) → d.usart.sender.shifter ≡ Sending t → word_of d.usart.format t.word ≡ t.word
+  pub sent-frame : (t : Transmission) → d.usart.sender.shifter ≡ Some t → word_of d.usart.format t.word ≡ t.word
   sent-frame t e = (subst (ValidShifter d.usart.format) e v.usart.sender.shifter).word
 
   -- .. so whoever receives it finds no parity error
-  pub sent-parity : (t : Transmission) → d.usart.sender.shifter ≡ Sending t → parity_error d.usart.format t.word ≡ false
+  pub sent-parity : (t : Transmission) → d.usart.sender.shifter ≡ Some t → parity_error d.usart.format t.word ≡ false
   sent-parity t e = frame-parity d.usart.format t.word (sent-frame t e)
 
   received : (r : Reception) → d.usart.receiver.sampler ≡ Receiving r → ValidSampler d.usart.format (Receiving r)

@@ -8,13 +8,13 @@ use native.Mathlib.Omega.{arith}
 use lib.Dec.{eqb, leb}
 use lib.ListN.{length, get_or}
 use borrow.Author.Tests.{eqb-true, eqb-false, leb-false, eq-eqb, ne_eqb, lt-ltb, le-leb, not-true}
+use Rattle.std.proofs.Common.{Err, Ok, Result, Some}
 use Rattle.choice.specs.Pick.{pick}
 use Rattle.choice.proofs.Picks.{pick_true, pick-false, both, split, clash}
 use Rattle.usart.specs.Sender.{is_resting}
 use Rattle.usart.specs.Sampler.{is_receiving}
 use Rattle.usart.specs.Valid.{voted_bits, ValidBuffer, ValidShifter, ValidSampler, ValidWaiting}
 use Rattle.usart.specs.declared.sender.Transmission.{Transmission}
-use Rattle.usart.specs.declared.sender.ShiftRegister.TheVariants.{Sending}
 use Rattle.usart.specs.declared.sampler.Reception.{Reception}
 use Rattle.usart.specs.declared.sampler.Sampler.TheVariants.{Receiving}
 use Rattle.usart.specs.declared.queue.Places.TheVariants.{Three}
@@ -28,13 +28,13 @@ use Rattle.record.specs.Lift.{baud_at, format_at, control_at, transmission_at, r
 use Rattle.record.specs.Accepts.{is_within, settings_fit, counter_fits, buffer_fits, is_no_transmission, shifter_fits, is_no_reception, sampler_fits, places_fit, waiting_fits, enabled_fits, usart_fits, accepts, is_record}
 use Rattle.record.specs.Codec.{decode_of}
 use Rattle.record.specs.Refusing.{OthersZero, is_unused, FieldsInRange, NoRecord, wrong_length, out_of_range, unused_byte}
-use Rattle.record.specs.declared.codec.Decoded.{Decoded}
-use Rattle.record.specs.declared.codec.Decoded.TheVariants.{Accepted, Refused}
 use Rattle.record.proofs.ListLaws.{and_both, and-pair}
 use Rattle.record.proofs.TestLaws.{three, and-three, counter-fits, shifter-fits, sampler-fits, sampler-shown}
 use Rattle.record.proofs.QueueLaws.{none-voted, places_count, enabled-fits}
 use Rattle.record.proofs.SpiTestLaws.{spi-fits}
-use Rattle.record.proofs.BytesLaws.{within-at, tests, serial, limit, registers, valid-device}
+use Rattle.record.proofs.BytesLaws.{within-at, tests, serial, limit, registers, valid-device, refused-record}
+use Rattle.answer.specs.declared.Refusal.{Refusal}
+use Rattle.answer.specs.declared.Refusal.TheVariants.{Record}
 
 -- bytes within their limits, one by one and all together
 
@@ -176,7 +176,7 @@ module _ (s : List ℕ) (v : FieldsInRange s) (unused : (i : ℕ) → i < record
       → (sending ≡ false → (word_at s sent_word_byte ≡ 0) × ((byte_at s sent_bit_byte ≡ 0) × (byte_at s sent_ticks_byte ≡ 0)))
       → shifter_fits (format_at s) sending (transmission_at s) ≡ true
   unfolding shifter_fits shifter_from
-  shifter-test true w z = shifter-fits (format_at s) (Sending (transmission_at s)) w
+  shifter-test true w z = shifter-fits (format_at s) (Some (transmission_at s)) w
   shifter-test false w z =
       let q = z refl in and-three _ _ _ (eq-eqb _ 0 q.0) (eq-eqb _ 0 q.1.0) (eq-eqb _ 0 q.1.1)
 
@@ -301,13 +301,13 @@ module _ (s : List ℕ) (v : FieldsInRange s) (unused : (i : ℕ) → i < record
 
 -- number 5
 
-refused-test : (s : List ℕ) → decode_of s ≡ Refused → length s ≡ record_length → accepts s ≡ false
+refused-test : (s : List ℕ) → decode_of s ≡ (Err Record) → length s ≡ record_length → accepts s ≡ false
 unfolding decode_of is_record
 refused-test s h n = split (accepts s)
-    (λ e. absurd (let a : Accepted (device_at s) ≡ decode_of s = pick_true _ _ _ _ (sym (pick_true _ _ _ _ (eq-eqb (length s) record_length n) (sym e))) refl in let z : ◌≡◌ {A = ℕ} 0 1 = cc in omega arith))
+    (λ e. absurd (let a : Ok (device_at s) ≡ decode_of s = pick_true _ _ _ _ (sym (pick_true _ _ _ _ (eq-eqb (length s) record_length n) (sym e))) refl in let z : ◌≡◌ {A = ℕ} 0 1 = cc in omega arith))
     (λ e. e)
 
-no_record : (s : List ℕ) → decode_of s ≡ Refused → NoRecord s
+no_record : (s : List ℕ) → decode_of s ≡ (Err Record) → NoRecord s
 no_record s h = split (eqb (length s) record_length)
     (λ n. by_bytes (refused-test s h (eqb-true _ _ n)))
     (λ n. wrong_length (eqb-false _ _ n))
@@ -321,20 +321,20 @@ no_record s h = split (eqb (length s) record_length)
         (λ u. unused_byte a.at a.within u (λ z. let m = a.more in omega arith))
         (λ u. out_of_range (λ v. let m = a.more in let k = v.limits a.at a.within u in omega arith)))
 
-accepted-tests : (s : List ℕ) (d : Device) → decode_of s ≡ Accepted d → (length s ≡ record_length) × (accepts s ≡ true)
+accepted-tests : (s : List ℕ) (d : Device) → decode_of s ≡ Ok d → (length s ≡ record_length) × (accepts s ≡ true)
 unfolding decode_of is_record
 accepted-tests s d h = split (is_record s)
     (λ e. let p = both (eqb (length s) record_length) (accepts s) e in (eqb-true _ _ p.0, p.1))
-    (λ e. absurd (let a : Refused ≡ decode_of s = pick-false _ _ _ _ e refl in let z : ◌≡◌ {A = ℕ} 0 1 = cc in omega arith))
+    (λ e. absurd (let a : (Err Record) ≡ decode_of s = pick-false _ _ _ _ e refl in let z : ◌≡◌ {A = ℕ} 0 1 = cc in omega arith))
 
-unfit : (s : List ℕ) (r : Decoded) → decode_of s ≡ r → NoRecord s → r ≡ Refused
-unfit s Refused e n = refl
-unfit s (Accepted d) e n = let t = accepted-tests s d e in absurd (against n t.0 t.1)
+unfit : (s : List ℕ) (r : Result Device Refusal) → decode_of s ≡ r → NoRecord s → r ≡ (Err Record)
+unfit s (Err r) e n = refused-record s r e
+unfit s (Ok d) e n = let t = accepted-tests s d e in absurd (against n t.0 t.1)
   where
     against : NoRecord s → length s ≡ record_length → accepts s ≡ true → ⊥
     against (wrong_length f) l a = f l
     against (out_of_range f) l a = f (in-range s a)
     against (unused_byte i b u f) l a = f (let m = limit s a i b in let z = eqb-true (get_or most i 0) 0 u in omega arith)
 
-pub five : (s : List ℕ) → (decode_of s ≡ Refused → NoRecord s) × (NoRecord s → decode_of s ≡ Refused)
+pub five : (s : List ℕ) → (decode_of s ≡ (Err Record) → NoRecord s) × (NoRecord s → decode_of s ≡ (Err Record))
 five s = (no_record s, unfit s (decode_of s) refl)

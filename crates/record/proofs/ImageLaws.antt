@@ -7,6 +7,7 @@ use native.Mathlib.Decide.{dec_lt}
 use native.Mathlib.Omega.{arith}
 use lib.Dec.{eqb, lit≤}
 use borrow.Author.Tests.{eq-eqb, le-leb}
+use Rattle.std.proofs.Common.{None, Option, Some}
 use Rattle.choice.specs.Pick.{pick}
 use Rattle.choice.proofs.Digits.{digit-le}
 use Rattle.frame.specs.Format.{samples, first_vote, word_bits, stop_bits}
@@ -21,8 +22,6 @@ use Rattle.usart.specs.Sender.{is_resting}
 use Rattle.usart.specs.Sampler.{is_receiving}
 use Rattle.usart.specs.Valid.{ValidShifter, ValidSampler}
 use Rattle.usart.proofs.SettingsLaws.{code_lt, upm-lt}
-use Rattle.usart.specs.declared.sender.ShiftRegister.{ShiftRegister}
-use Rattle.usart.specs.declared.sender.ShiftRegister.TheVariants.{Resting, Sending}
 use Rattle.usart.specs.declared.sampler.Reception.{Reception}
 use Rattle.usart.specs.declared.sampler.Sampler.{Sampler}
 use Rattle.usart.specs.declared.sampler.Sampler.TheVariants.{Idle, Receiving}
@@ -51,6 +50,7 @@ use Rattle.record.proofs.LiftLaws.{data-lt, sent-lt, received-lt, valid-oldest, 
 use Rattle.record.proofs.TestLaws.{counter-fits, buffer-fits, shifter-fits, sampler-fits}
 use Rattle.record.proofs.QueueLaws.{places-fit, waiting-fits, enabled-fits}
 use Rattle.record.proofs.SpiTestLaws.{spi-fits}
+use Rattle.usart.specs.declared.sender.Transmission.{Transmission}
 
 -- a list within another, number for number
 infixr 20 ◌▹◌
@@ -89,14 +89,14 @@ held-le (Three a b c) = omega arith
 samples-le : (f : Format) → samples f ≤ 16
 samples-le f = let e = samples-half f in let r = first-vote-range f in omega arith
 
-sent-bit : (f : Format) (s : ShiftRegister) → ValidShifter f s → (transmission_in s).bit ≤ 12
-sent-bit f Resting v = omega arith
-sent-bit f (Sending t) v =
+sent-bit : (f : Format) (s : Option Transmission) → ValidShifter f s → (transmission_in s).bit ≤ 12
+sent-bit f None v = omega arith
+sent-bit f (Some t) v =
     let w = word-bits-range f in let s = stop-bits-range f in let b : t.bit ≤ word_bits f + stop_bits f = v.bit in omega arith
 
-sent-sample : (f : Format) (s : ShiftRegister) → ValidShifter f s → (transmission_in s).sample.0 ≤ 15
-sent-sample f Resting v = omega arith
-sent-sample f (Sending t) v = let l = samples-le f in let b : t.sample.0 < samples f = v.sample in omega arith
+sent-sample : (f : Format) (s : Option Transmission) → ValidShifter f s → (transmission_in s).sample.0 ≤ 15
+sent-sample f None v = omega arith
+sent-sample f (Some t) v = let l = samples-le f in let b : t.sample.0 < samples f = v.sample in omega arith
 
 received-bit : (f : Format) (s : Sampler) → ValidSampler f s → (reception_in s).bit ≤ 11
 received-bit f (Idle last) v = omega arith
@@ -203,9 +203,9 @@ module _ (d : Device) (v : Valid d) where
       le-15 : (x : ℕ) → x < 16 → x ≤ 15
       le-15 x h = omega arith
 
-  in_shift : (s : ShiftRegister) (r : Bool) → pick (not (is_resting s)) true r ≡ pick (is_resting s) r true
-  in_shift Resting r = refl
-  in_shift (Sending t) r = refl
+  in_shift : (s : Option Transmission) (r : Bool) → pick (not (is_resting s)) true r ≡ pick (is_resting s) r true
+  in_shift None r = refl
+  in_shift (Some t) r = refl
 
   image-fits : usart_fits (image_of d) ≡ true
   unfolding usart_fits

@@ -1,17 +1,14 @@
 -- A valid device is what the bytes of its image say. Assumes nothing.
-use Prim.Native.Nat.{◌^◌, ◌<◌}
+use Prim.Native.Nat.{ℕ, ◌^◌, ◌<◌}
 use mathlib.Core.Bool.{Bool}
 use mathlib.Core.Path.{◌≡◌, ap, ap₂, ◌∙◌}
 use native.Mathlib.Omega.{arith}
+use Rattle.std.proofs.Common.{None, Option, Some}
 use Rattle.frame.specs.Format.{data_bits, word_bits}
 use Rattle.frame.specs.declared.format.Format.{Format}
 use Rattle.frame.proofs.WordLaws.{frame-lt}
 use Rattle.usart.specs.Queue.{no_frame, oldest_of}
 use Rattle.usart.specs.Valid.{ValidBuffer, ValidShifter, ValidSampler, ValidFrame, ValidPlaces}
-use Rattle.usart.specs.declared.sender.Buffer.{Buffer}
-use Rattle.usart.specs.declared.sender.Buffer.TheVariants.{Vacant, Full}
-use Rattle.usart.specs.declared.sender.ShiftRegister.{ShiftRegister}
-use Rattle.usart.specs.declared.sender.ShiftRegister.TheVariants.{Resting, Sending}
 use Rattle.usart.specs.declared.sampler.Sampler.{Sampler}
 use Rattle.usart.specs.declared.sampler.Sampler.TheVariants.{Idle, Receiving}
 use Rattle.usart.specs.declared.queue.Frame.{Frame}
@@ -25,16 +22,17 @@ use Rattle.record.specs.Image.{image_of}
 use Rattle.record.specs.Lift.{baud_at, format_at, control_at, buffer_at, transmission_at, shifter_at, sender_with, sender_at, reception_at, sampler_at, frame_at, places_at, queue_with, queue_at, usart_at, spi_control_at, flags_at, pins_at, spi_at, device_at}
 use Rattle.record.proofs.CodeLaws.{data-limit, word-limit, word-parts, flag-bit, flag-again, buffer-again, shifter-again, sampler-again, places-again}
 use Rattle.record.proofs.RegisterLaws.{txc-again, format-again, control-again, frame-again}
+use Rattle.usart.specs.declared.sender.Transmission.{Transmission}
 
 -- the words of valid parts
 
-pub data-lt : (f : Format) (b : Buffer) → ValidBuffer f b → buffer_data b < 512
-data-lt f Vacant v = omega arith
-data-lt f (Full d) v = let l = data-limit f.size in let w : d < 2 ^ data_bits f.size = v in omega arith
+pub data-lt : (f : Format) (b : Option ℕ) → ValidBuffer f b → buffer_data b < 512
+data-lt f None v = omega arith
+data-lt f (Some d) v = let l = data-limit f.size in let w : d < 2 ^ data_bits f.size = v in omega arith
 
-pub sent-lt : (f : Format) (s : ShiftRegister) → ValidShifter f s → (transmission_in s).word < 1024
-sent-lt f Resting v = omega arith
-sent-lt f (Sending t) v = let l = word-limit f in let w = frame-lt f t.word v.word in omega arith
+pub sent-lt : (f : Format) (s : Option Transmission) → ValidShifter f s → (transmission_in s).word < 1024
+sent-lt f None v = omega arith
+sent-lt f (Some t) v = let l = word-limit f in let w = frame-lt f t.word v.word in omega arith
 
 pub received-lt : (f : Format) (s : Sampler) → ValidSampler f s → (reception_in s).word < 1024
 received-lt f (Idle last) v = omega arith

@@ -1,55 +1,42 @@
--- Laws of tests on lists, and of a copy over a list as long. Assumes nothing.
-use Prim.Native.Nat.{ℕ, ◌+◌, ◌<◌, suc}
-use mathlib.Core.Bool.{Bool, true, false, not, ◌&&◌}
-use mathlib.Core.List.{List, ◌++◌, append-nil}
+-- Laws of tests on lists. Assumes nothing.
+use Prim.Native.Nat.{ℕ}
+use mathlib.Core.Bool.{Bool, true, false, ◌&&◌}
+use mathlib.Core.List.{List, [], ◌∷◌}
 use mathlib.Core.Path.{◌≡◌, refl, sym, ap, ap₂, ◌∙◌}
 use native.Mathlib.Omega.{arith}
-use lib.Dec.{eqb, leb}
-use borrow.Author.Tests.{eqb-true, not-true, not-false}
-use lib.ListN.{length, take, drop, get_or}
-use lib.Seq.{take-length, drop-length, drop-cons}
+use mir.Val.{bool_byte}
+use lib.Dec.{eqb, leb, ltb}
+use borrow.Author.Tests.{leb-true, leb-false, ne_eqb, le-ltb, lt-ltb}
 use Rattle.choice.specs.Pick.{pick}
-use Rattle.choice.proofs.Picks.{pick_true, pick-false, both, clash}
-use Rattle.record.specs.Layout.{record_length}
-use Rattle.record.specs.Accepts.{is_within, accepts, is_record}
+use Rattle.std.specs.List.{fold, zip}
+use Rattle.std.specs.Int.Bits.{bit_or, or_zero_r}
+use Rattle.std.proofs.lemmas.Nat.{le_or_r}
+use Rattle.choice.proofs.Picks.{pick-self, split, clash}
+use Rattle.record.specs.Accepts.{is_within}
 
-pub copied : (s d : List ℕ) → length s ≡ length d → take (length s) s ++ drop (length s) d ≡ s
-copied s d h = rw (take-length, h, drop-length, append-nil)
+-- no byte is above its limit, where none is marked as one that is
 
-add-one : (i : ℕ) → i + 1 ≡ suc i
-add-one i = omega arith
+marked : (over x m : ℕ) → eqb (bit_or over (bool_byte (ltb m x))) 0 ≡ pick (eqb over 0) (leb x m) false
+marked over x m = split (leb x m)
+    (λ h. rw (h, le-ltb m x (leb-true x m h), or_zero_r over) (sym (pick-self (eqb over 0))))
+    (λ h. let l = leb-false x m h in let k = le_or_r over 1 in rw (h, lt-ltb m x (omega arith)) (ne_eqb _ 0 (λ e. omega arith) ∙ neither (eqb over 0)))
+  where
+    neither : (t : Bool) → false ≡ pick t false false
+    neither true = refl
+    neither false = refl
 
--- byte i of xs against its limit in ms
-module _ (xs ms : List ℕ) (i : ℕ) (h : i < length xs) (k : i < length ms) where
-  within-next : (low : Bool) → pick (low && leb (get_or xs i 0) (get_or ms i 0)) (is_within (drop (i + 1) xs) (drop (i + 1) ms)) false
-      ≡ pick low (is_within (drop i xs) (drop i ms)) false
-  unfolding is_within
-  within-next true = rw (add-one i, drop-cons xs i 0 h, drop-cons ms i 0 k)
-  within-next false = refl
-
-  -- t is what is tested of it
-  pub within_on : (low low' t all : Bool) → low' ≡ low && t → t ≡ leb (get_or xs i 0) (get_or ms i 0) → pick low (is_within (drop i xs) (drop i ms)) false ≡ all
-      → pick low' (is_within (drop (i + 1) xs) (drop (i + 1) ms)) false ≡ all
-  within_on low low' t all e f q =
-      ap (λ (b : Bool). pick b (is_within (drop (i + 1) xs) (drop (i + 1) ms)) false) (e ∙ ap (λ (x : Bool). low && x) f) ∙ within-next low ∙ q
-
--- none is left
-pub within_end : (xs ms : List ℕ) (i : ℕ) → i ≡ length xs → i ≡ length ms → is_within (drop i xs) (drop i ms) ≡ true
+pub within-folded : (xs ms : List ℕ) (over : ℕ) → eqb (fold (λ (n : ℕ) (p : ℕ × ℕ). bit_or n (bool_byte (ltb p.1 p.0))) over (zip xs ms)) 0 ≡ pick (eqb over 0) (is_within xs ms) false
 unfolding is_within
-within_end xs ms i h k = rw (h, drop-length)
-
--- what is accepted is as long as a record
-pub record-length : (s : List ℕ) {t : Bool} → t ≡ is_record s → t ≡ true → length s ≡ record_length
-unfolding is_record
-record-length s e h = eqb-true (length s) record_length (both (eqb (length s) record_length) (accepts s) (sym e ∙ h)).0
-
--- a test of several, by what a call answered: it holds, and the rest decides; or it does not
-
-pub holds : (t rest : Bool) {a r : Bool} → a ≡ t → not a ≡ false → r ≡ rest → r ≡ pick t rest false
-holds t rest {a} {r} e h q = pick_true t rest false r (sym e ∙ not-false a h) q
-
-pub fails : (t rest : Bool) {a : Bool} → a ≡ t → not a ≡ true → false ≡ pick t rest false
-fails t rest {a} e h = pick-false t rest false false (sym e ∙ not-true a h) refl
+within-folded [] ms over = sym (pick-self (eqb over 0))
+within-folded (x ∷ xs) [] over = sym (pick-self (eqb over 0))
+within-folded (x ∷ xs) (m ∷ ms) over =
+    within-folded xs ms (bit_or over (bool_byte (ltb m x)))
+    ∙ ap (λ (t : Bool). pick t (is_within xs ms) false) (marked over x m)
+    ∙ both-picked (eqb over 0) (leb x m)
+  where
+    both-picked : (a b : Bool) → pick (pick a b false) (is_within xs ms) false ≡ pick a (pick b (is_within xs ms) false) false
+    both-picked true b = refl
+    both-picked false b = refl
 
 -- both of a pair of tests hold, and a pair of tests that hold
 

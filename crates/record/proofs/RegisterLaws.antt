@@ -4,30 +4,44 @@ use Prim.Native.Nat.{ℕ, zero, suc, ◌+◌, ◌*◌, ◌/◌, ◌%◌, ◌<◌
 use mathlib.Core.Bool.{Bool, true, false}
 use mathlib.Core.Path.{◌≡◌, refl, sym, ap, ◌∙◌}
 use mathlib.Core.Logic.{⊎_elim}
-use native.Mathlib.Nat.{eq-or-lt_of_le}
+use native.Mathlib.Nat.{eq-or-lt_of_le, div-one}
 use native.Mathlib.Omega.{arith}
 use lib.Dec.{eqb}
 use borrow.Author.Tests.{eqb-true, eq-eqb}
+use Rattle.std.proofs.Common.{None, Option, Some}
 use Rattle.choice.specs.Bit.{is_set}
 use Rattle.choice.specs.Pick.{pick, digit}
 use Rattle.choice.proofs.Digits.{digit-le, digit-is, digit-odd}
 use Rattle.choice.proofs.Picks.{pick_true, both, clash}
 use Rattle.frame.specs.declared.format.Format.{Format}
 use Rattle.usart.specs.Settings.{code_of, size_of, is_known, upm_of, parity_of}
-use Rattle.usart.specs.declared.settings.Coded.{Coded}
-use Rattle.usart.specs.declared.settings.Coded.TheVariants.{Known, Reserved}
 use Rattle.usart.specs.declared.queue.Frame.{Frame}
 use Rattle.usart.specs.declared.unit.Control.{Control}
+use Rattle.usart.specs.Write.{control_in}
 use Rattle.usart.proofs.SettingsLaws.{code_lt, upm-lt, upm-again, Codes, coded}
 use Rattle.record.specs.Layout.{low}
 use Rattle.record.specs.Codes.{size_code, size_in, known_size, marks_of, frame_from}
 use Rattle.record.specs.Image.{ucsr0a, ucsr0b, ucsr0c}
 use Rattle.record.specs.Lift.{format_of, control_of}
 use Rattle.record.proofs.CodeLaws.{size-again, parity-again}
+use Rattle.frame.specs.declared.format.Size.{Size}
 
 -- a digit says which
 set-again : (n : ℕ) (b : Bool) → n ≡ digit b → eqb n 1 ≡ b
 set-again n b h = ap (λ (x : ℕ). eqb x 1) h ∙ digit-is b
+
+-- the settings that a write makes of a byte are those that a record's byte holds
+pub control_same : (b : ℕ) → control_in b ≡ control_of b
+control_same b =
+    ap (λ (n : ℕ). record {
+      rxcie = is_set b 128;
+      txcie = is_set b 64;
+      udrie = is_set b 32;
+      rxen = is_set b 16;
+      txen = is_set b 8;
+      txb8 = eqb (n % 2) 1;
+    })
+    (sym (div-one b))
 
 -- a test that all numbers below n pass, and what it says of each
 abbrev below : ℕ → (ℕ → Bool) → Bool
@@ -203,9 +217,9 @@ frame-again x h =
 
 -- and bytes again from what they say
 
-known-code : (n : ℕ) (z : Coded) → Codes n z → is_known z ≡ true → code_of (size_in z) ≡ n
-known-code n (Known z) h k = h
-known-code n Reserved h k = clash k refl
+known-code : (n : ℕ) (z : Option Size) → Codes n z → is_known z ≡ true → code_of (size_in z) ≡ n
+known-code n (Some z) h k = h
+known-code n None h k = clash k refl
 
 module _ (x y z : ℕ) (known : is_known (size_of (size_code y z)) ≡ true) where
   abbrev code : ℕ

@@ -5,6 +5,7 @@ use mathlib.Core.List.{List}
 use mathlib.Core.Path.{◌≡◌, refl, sym, ap, ◌∙◌}
 use lib.Dec.{eqb}
 use lib.ListN.{length}
+use borrow.Author.Tests.{eqb-true}
 use Rattle.choice.proofs.Picks.{pick_ind, split, both}
 use Rattle.usart.specs.Sender.{is_vacant}
 use Rattle.usart.specs.Queue.{is_empty}
@@ -16,7 +17,6 @@ use Rattle.record.specs.Layout.{record_length, oldest_byte, byte_at}
 use Rattle.record.specs.Parts.{buffer_from, places_from}
 use Rattle.record.specs.Lift.{device_at}
 use Rattle.record.specs.Accepts.{accepts, is_record}
-use Rattle.record.proofs.ListLaws.{record-length}
 use Rattle.record.proofs.BytesLaws.{image-again}
 
 pub none-held : (n : ℕ) (waits : Bool) (a b c : Frame) → is_empty (places_from n waits a b c) ≡ eqb n 0
@@ -36,5 +36,5 @@ not_full false d = refl
 pub splits-shown : (s : List ℕ) {t : Bool} → t ≡ is_record s → t ≡ true → byte_at s (oldest_byte + 2) ≡ split_votes (device_at s)
 unfolding is_record
 splits-shown s e h =
-    let a : accepts s ≡ true = (both (eqb (length s) record_length) (accepts s) (sym e ∙ h)).1 in
-    ap (λ (b : List ℕ). byte_at b (oldest_byte + 2)) (sym (image-again s a (record-length s e h)))
+    let p = both (eqb (length s) record_length) (accepts s) (sym e ∙ h) in
+    ap (λ (b : List ℕ). byte_at b (oldest_byte + 2)) (sym (image-again s p.1 (eqb-true (length s) record_length p.0)))

@@ -6,6 +6,7 @@ use mathlib.Core.Path.{◌≡◌, refl, sym}
 use native.Mathlib.Omega.{arith}
 use lib.Dec.{eqb, ltb, leb}
 use borrow.Author.Tests.{eqb-true, ltb-true, leb-true, eq-eqb, ne_eqb, lt-ltb, le-leb, not-true}
+use Rattle.std.proofs.Common.{None, Option, Some}
 use Rattle.choice.specs.Pick.{pick}
 use Rattle.choice.proofs.Picks.{pick_ind, both, clash}
 use Rattle.frame.specs.Format.{samples, first_vote, word_bits, last_bit}
@@ -15,11 +16,7 @@ use Rattle.usart.specs.Sender.{is_vacant, is_resting}
 use Rattle.usart.specs.Sampler.{is_receiving}
 use Rattle.usart.specs.Valid.{ValidBuffer, ValidShifter, ValidReception, ValidSampler}
 use Rattle.usart.specs.declared.baud.Baud.{Baud}
-use Rattle.usart.specs.declared.sender.Buffer.{Buffer}
-use Rattle.usart.specs.declared.sender.Buffer.TheVariants.{Vacant, Full}
 use Rattle.usart.specs.declared.sender.Transmission.{Transmission}
-use Rattle.usart.specs.declared.sender.ShiftRegister.{ShiftRegister}
-use Rattle.usart.specs.declared.sender.ShiftRegister.TheVariants.{Resting, Sending}
 use Rattle.usart.specs.declared.sampler.Reception.{Reception}
 use Rattle.usart.specs.declared.sampler.Sampler.{Sampler}
 use Rattle.usart.specs.declared.sampler.Sampler.TheVariants.{Idle, Receiving}
@@ -62,10 +59,10 @@ counter-valid false false b h e = clash e refl
 
 -- the transmit buffer
 
-pub buffer-fits : (f : Format) (b : Buffer) → ValidBuffer f b → buffer_fits f (not (is_vacant b)) (buffer_data b) ≡ true
+pub buffer-fits : (f : Format) (b : Option ℕ) → ValidBuffer f b → buffer_fits f (not (is_vacant b)) (buffer_data b) ≡ true
 unfolding buffer_fits
-buffer-fits f Vacant v = refl
-buffer-fits f (Full d) v = lt-ltb _ _ v
+buffer-fits f None v = refl
+buffer-fits f (Some d) v = lt-ltb _ _ v
 
 pub buffer-valid : (f : Format) (full : Bool) (d : ℕ) → buffer_fits f full d ≡ true → ValidBuffer f (buffer_from full d)
 unfolding buffer_fits buffer_from
@@ -80,10 +77,10 @@ buffer-shown f false d h = (refl, sym (eqb-true d 0 h))
 
 -- the frame being sent
 
-pub shifter-fits : (f : Format) (s : ShiftRegister) → ValidShifter f s → shifter_fits f (not (is_resting s)) (transmission_in s) ≡ true
+pub shifter-fits : (f : Format) (s : Option Transmission) → ValidShifter f s → shifter_fits f (not (is_resting s)) (transmission_in s) ≡ true
 unfolding shifter_fits
-shifter-fits f Resting v = refl
-shifter-fits f (Sending t) v =
+shifter-fits f None v = refl
+shifter-fits f (Some t) v =
     and-three _ _ _ (eq-eqb (word_of f t.word) t.word v.word) (le-leb t.bit (last_bit f) v.bit) (lt-ltb t.sample.0 (samples f) v.sample)
 
 pub shifter-valid : (f : Format) (sending : Bool) (t : Transmission) → shifter_fits f sending t ≡ true → ValidShifter f (shifter_from sending t)
@@ -94,7 +91,7 @@ shifter-valid f true t h =
 shifter-valid f false t h = tt
 
 -- what bytes of 0 say
-no-transmission : (t : Transmission) → is_no_transmission t ≡ true → transmission_in Resting ≡ t
+no-transmission : (t : Transmission) → is_no_transmission t ≡ true → transmission_in None ≡ t
 no-transmission t h =
     let w = three (eqb t.word 0) (eqb t.bit 0) (eqb t.sample.0 0) h in
     rw (eqb-true t.word 0 w.0, eqb-true t.bit 0 w.1.0, eqb-true t.sample.0 0 w.1.1)

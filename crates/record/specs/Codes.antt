@@ -1,13 +1,11 @@
 -- The codes of what a device holds as one of a few cases: the size code UCSZ2:0 as in the registers, a frame's marks,
 -- and an SPI flag.
-use Rattle.std.specs.Prelude.{ℕ, ◌+◌, ◌*◌, ◌/◌, ◌%◌, eqb}
+use Rattle.std.specs.Prelude.{ℕ, ◌+◌, ◌*◌, ◌/◌, ◌%◌, eqb, None, Option, Some}
 use Rattle.choice.specs.Bit.{is_set}
 use Rattle.choice.specs.Pick.{pick, digit}
 use Rattle.frame.specs.declared.format.Size.{Size}
 use Rattle.frame.specs.declared.format.Size.TheVariants.{Eight}
 use Rattle.usart.specs.Settings.{size_of}
-use Rattle.usart.specs.declared.settings.Coded.{Coded}
-use Rattle.usart.specs.declared.settings.Coded.TheVariants.{Known, Reserved}
 use Rattle.usart.specs.declared.queue.Frame.{Frame}
 use Rattle.spi.specs.declared.flag.Flag.{Flag}
 use Rattle.spi.specs.declared.flag.Flag.TheVariants.{Clear, Set, Armed}
@@ -17,9 +15,9 @@ abbrev pub size_code : ℕ → ℕ → ℕ
 size_code b c = b / 4 % 2 * 4 + c / 2 % 4
 
 -- a reserved code gives any size: a record that has one is refused
-abbrev pub size_in : Coded → Size
-size_in (Known z) = z
-size_in Reserved = Eight
+abbrev pub size_in : Option Size → Size
+size_in (Some z) = z
+size_in None = Eight
 
 abbrev pub known_size : ℕ → Size
 known_size n = size_in (size_of n)

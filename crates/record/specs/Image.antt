@@ -6,16 +6,12 @@ use Rattle.choice.specs.Pick.{digit}
 use Rattle.frame.specs.declared.format.Format.{Format}
 use Rattle.usart.specs.Settings.{code_of, upm_of}
 use Rattle.usart.specs.declared.unit.Control.{Control}
-use Rattle.spi.specs.declared.flag.Flags.{Flags}
 use Rattle.device.specs.declared.unit.Device.{Device}
 use Rattle.record.specs.Layout.{layout_number, low, high}
 use Rattle.record.specs.Codes.{marks_of, flag_code}
 use Rattle.record.specs.Parts.{sender_parts, receiver_parts}
 use Rattle.record.specs.declared.parts.SenderParts.{SenderParts}
 use Rattle.record.specs.declared.parts.ReceiverParts.{ReceiverParts}
-use Rattle.record.specs.declared.encode.Registers.{Registers}
-use Rattle.record.specs.declared.encode.Marks.{Marks}
-use Rattle.record.specs.declared.encode.FlagCodes.{FlagCodes}
 
 -- TXC and U2X
 abbrev pub ucsr0a : Format → Bool → ℕ
@@ -30,42 +26,31 @@ ucsr0b f c =
 abbrev pub ucsr0c : Format → ℕ
 ucsr0c f = upm_of f.parity * 16 + digit f.usbs * 8 + code_of f.size % 4 * 2
 
-abbrev pub registers_of : Format → Control → Bool → Registers
-registers_of f c txc = record { a = ucsr0a f txc; b = ucsr0b f c; c = ucsr0c f }
-
-abbrev pub marks_in : ReceiverParts → Marks
-marks_in r =
-    record { oldest = marks_of r.frames.oldest; second = marks_of r.frames.second; third = marks_of r.frames.third }
-
-abbrev pub flag_codes : Flags → FlagCodes
-flag_codes f = record { spif = flag_code f.spif; wcol = flag_code f.wcol }
-
 abbrev pub bit : Bool → ℕ
 bit b = bool_byte b
 
-abbrev pub image_with : Device → Registers → SenderParts → ReceiverParts → Marks → FlagCodes → List ℕ
-image_with d k s r m g =
+abbrev pub image_with : Device → SenderParts → ReceiverParts → List ℕ
+image_with d s r =
     low d.usart.baud.ubrr ∷ high d.usart.baud.ubrr
     ∷ low d.usart.baud.left.0 ∷ high d.usart.baud.left.0
-    ∷ k.a ∷ k.b ∷ k.c ∷ 0
+    ∷ ucsr0a d.usart.format d.usart.sender.txc ∷ ucsr0b d.usart.format d.usart.control ∷ ucsr0c d.usart.format ∷ 0
     ∷ bit s.full ∷ low s.«data» ∷ high s.«data»
     ∷ bit s.sending ∷ low s.transmission.word ∷ high s.transmission.word
     ∷ s.transmission.bit ∷ s.transmission.sample.0
     ∷ bit r.receiving ∷ bit r.last ∷ r.reception.bit ∷ r.reception.sample.0
     ∷ bit r.reception.first ∷ bit r.reception.second ∷ low r.reception.word ∷ high r.reception.word
     ∷ r.reception.splits ∷ r.frames.held ∷ bit r.frames.waits ∷ bit d.usart.receiver.queue.lost
-    ∷ low r.frames.oldest.«data» ∷ m.oldest ∷ r.frames.oldest.splits
-    ∷ low r.frames.second.«data» ∷ m.second ∷ r.frames.second.splits
-    ∷ low r.frames.third.«data» ∷ m.third ∷ r.frames.third.splits
+    ∷ low r.frames.oldest.«data» ∷ marks_of r.frames.oldest ∷ r.frames.oldest.splits
+    ∷ low r.frames.second.«data» ∷ marks_of r.frames.second ∷ r.frames.second.splits
+    ∷ low r.frames.third.«data» ∷ marks_of r.frames.third ∷ r.frames.third.splits
     ∷ 0 ∷ 0 ∷ 0
     ∷ 0 ∷ 0 ∷ 0 ∷ 0 ∷ 0 ∷ 0 ∷ 0 ∷ 0
     ∷ d.spi.control.spcr ∷ bit d.spi.control.spi2x ∷ d.spi.control.ddrb
     ∷ d.spi.transfer.shift ∷ d.spi.transfer.received ∷ d.spi.transfer.edges ∷ d.spi.transfer.left.0
-    ∷ g.spif ∷ g.wcol ∷ bit d.spi.pins.mosi ∷ bit d.spi.pins.miso ∷ bit d.spi.pins.sck
+    ∷ flag_code d.spi.flags.spif ∷ flag_code d.spi.flags.wcol
+    ∷ bit d.spi.pins.mosi ∷ bit d.spi.pins.miso ∷ bit d.spi.pins.sck
     ∷ 0 ∷ 0 ∷ 0 ∷ layout_number
     ∷ []
 
 abbrev pub image_of : Device → List ℕ
-image_of d =
-    image_with d (registers_of d.usart.format d.usart.control d.usart.sender.txc) (sender_parts d.usart.sender)
-    (receiver_parts d.usart.receiver) (marks_in (receiver_parts d.usart.receiver)) (flag_codes d.spi.flags)
+image_of d = image_with d (sender_parts d.usart.sender) (receiver_parts d.usart.receiver)

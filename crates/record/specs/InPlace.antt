@@ -1,6 +1,6 @@
 -- A means, no rule: a clock that only counts, by the few bytes that it changes. That it comes to the clock of the
 -- device that they say is proved in proofs/InPlaceLaws.antt; which clocks these are is said of the device.
-use Rattle.std.specs.Prelude.{ℕ, ◌+◌, ◌-◌, List, set}
+use Rattle.std.specs.Prelude.{ℕ, ◌+◌, ◌-◌, List, set, Err, Ok, Result}
 use Rattle.choice.specs.Pick.{pick}
 use Rattle.usart.specs.Baud.{ticks}
 use Rattle.device.specs.Unit.{output_of}
@@ -9,8 +9,10 @@ use Rattle.record.specs.Layout.{ubrr_byte, left_byte, sending_byte, sent_ticks_b
 use Rattle.record.specs.Lift.{baud_at, device_at}
 use Rattle.record.specs.Accepts.{is_record}
 use Rattle.record.specs.Codec.{record_of}
+use Rattle.answer.specs.declared.Refusal.{Refusal}
 use Rattle.record.specs.declared.in_place.Stepped.{Stepped}
-use Rattle.record.specs.declared.in_place.Stepped.TheVariants.{Refused, Counted, Due}
+use Rattle.record.specs.declared.in_place.Stepped.TheVariants.{Counted, Due}
+use Rattle.answer.specs.declared.Refusal.TheVariants.{Record}
 
 -- a tick: the baud counter is loaded, and each bit under way has one more
 abbrev pub ticked_over : List ℕ → List ℕ
@@ -27,8 +29,8 @@ advanced_over s = pick (ticks (baud_at s)) (ticked_over s) (waited_over s)
 
 -- one clock: no record; it only counted, and this is its output; or something happens at it, and this is the device,
 -- which has not moved
-unfoldable pub stepped_of : List ℕ → ℕ → Stepped
-stepped_of s level = pick (is_record s) (pick (is_counting (device_at s) level) (Counted (output_of (device_at s) level)) (Due (device_at s))) Refused
+unfoldable pub stepped_of : List ℕ → ℕ → Result Stepped Refusal
+stepped_of s level = pick (is_record s) (pick (is_counting (device_at s) level) (Ok (Counted (output_of (device_at s) level))) (Ok (Due (device_at s)))) (Err Record)
 
 -- .. and the bytes after it
 unfoldable pub stepped_over : List ℕ → ℕ → List ℕ

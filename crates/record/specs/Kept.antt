@@ -1,25 +1,24 @@
 -- What a call leaves of a record, by what it came to: every refusal leaves it untouched.
-use Rattle.std.specs.Prelude.{ℕ, List}
-use Rattle.device.specs.declared.outcome.Written.{Written}
-use Rattle.device.specs.declared.outcome.Written.TheVariants.{Done, Refused}
-use Rattle.device.specs.declared.outcome.Reading.{Reading}
-use Rattle.device.specs.declared.outcome.Reading.TheVariants.{Done as Value, Refused as NoValue}
+use Rattle.std.specs.Prelude.{ℕ, List, Err, Ok, Result}
 use Rattle.record.specs.Codec.{record_of, stored_over}
+use Rattle.device.specs.declared.unit.Device.{Device}
+use Rattle.answer.specs.declared.Refusal.{Refusal}
+use Rattle.answer.specs.declared.Reading.{Reading}
 
-abbrev pub kept : List ℕ → Written → List ℕ
-kept s (Done d) = record_of d
-kept s (Refused r) = s
+abbrev pub kept : List ℕ → Result Device Refusal → List ℕ
+kept s (Ok d) = record_of d
+kept s (Err r) = s
 
 -- .. of a call that answers a value too
-abbrev pub kept_by_read : List ℕ → Reading → List ℕ
-kept_by_read s (Value v d) = record_of d
-kept_by_read s (NoValue r) = s
+abbrev pub kept_by_read : List ℕ → Result (Reading Device) Refusal → List ℕ
+kept_by_read s (Ok g) = record_of g.after
+kept_by_read s (Err r) = s
 
 -- a means, no rule: what is put back over any slice, which over one as long as a record is what is kept
-abbrev pub put_back : Written → List ℕ → List ℕ
-put_back (Done d) s = stored_over d s
-put_back (Refused r) s = s
+abbrev pub put_back : Result Device Refusal → List ℕ → List ℕ
+put_back (Ok d) s = stored_over d s
+put_back (Err r) s = s
 
-abbrev pub put_back_read : Reading → List ℕ → List ℕ
-put_back_read (Value v d) s = stored_over d s
-put_back_read (NoValue r) s = s
+abbrev pub put_back_read : Result (Reading Device) Refusal → List ℕ → List ℕ
+put_back_read (Ok g) s = stored_over g.after s
+put_back_read (Err r) s = s

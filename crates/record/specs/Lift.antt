@@ -1,15 +1,13 @@
 -- What the bytes of a record say, unchecked, field by field. A byte that says nothing of its kind is refused
 -- (specs/Accepts.antt).
-use Rattle.std.specs.Prelude.{ℕ, ◌+◌, ◌/◌, ◌%◌, Bool, List}
+use Rattle.std.specs.Prelude.{ℕ, ◌+◌, ◌/◌, ◌%◌, Bool, List, Option}
 use Rattle.choice.specs.Bit.{is_set}
 use Rattle.frame.specs.declared.format.Size.{Size}
 use Rattle.frame.specs.declared.format.Parity.{Parity}
 use Rattle.frame.specs.declared.format.Format.{Format}
 use Rattle.usart.specs.Settings.{parity_of}
 use Rattle.usart.specs.declared.baud.Baud.{Baud}
-use Rattle.usart.specs.declared.sender.Buffer.{Buffer}
 use Rattle.usart.specs.declared.sender.Transmission.{Transmission}
-use Rattle.usart.specs.declared.sender.ShiftRegister.{ShiftRegister}
 use Rattle.usart.specs.declared.sender.Sender.{Sender}
 use Rattle.usart.specs.declared.sampler.Reception.{Reception}
 use Rattle.usart.specs.declared.sampler.Sampler.{Sampler}
@@ -53,16 +51,16 @@ control_of b =
 abbrev pub control_at : List ℕ → Control
 control_at b = control_of (byte_at b ucsr0b_byte)
 
-abbrev pub buffer_at : List ℕ → Buffer
+abbrev pub buffer_at : List ℕ → Option ℕ
 buffer_at b = buffer_from (set_at b full_byte) (word_at b data_byte)
 
 abbrev pub transmission_at : List ℕ → Transmission
 transmission_at b = record { word = word_at b sent_word_byte; bit = byte_at b sent_bit_byte; sample = record { 0 = byte_at b sent_ticks_byte } }
 
-abbrev pub shifter_at : List ℕ → ShiftRegister
+abbrev pub shifter_at : List ℕ → Option Transmission
 shifter_at b = shifter_from (set_at b sending_byte) (transmission_at b)
 
-abbrev pub sender_with : ℕ → Buffer → ShiftRegister → Sender
+abbrev pub sender_with : ℕ → Option ℕ → Option Transmission → Sender
 sender_with a u s = record { buffer = u; shifter = s; txc = is_set a 64 }
 
 abbrev pub sender_at : List ℕ → Sender

@@ -1,14 +1,10 @@
 -- What the bytes hold of the parts that have cases: all 0 where a part is not in use, and the part again from them.
-use Rattle.std.specs.Prelude.{ℕ, Bool, true, false, not, eqb}
+use Rattle.std.specs.Prelude.{ℕ, Bool, true, false, not, eqb, None, Option, Some}
 use Rattle.choice.specs.Pick.{pick}
 use Rattle.usart.specs.Sender.{is_vacant, is_resting}
 use Rattle.usart.specs.Sampler.{is_receiving}
 use Rattle.usart.specs.Queue.{no_frame, oldest_of}
-use Rattle.usart.specs.declared.sender.Buffer.{Buffer}
-use Rattle.usart.specs.declared.sender.Buffer.TheVariants.{Vacant, Full}
 use Rattle.usart.specs.declared.sender.Transmission.{Transmission}
-use Rattle.usart.specs.declared.sender.ShiftRegister.{ShiftRegister}
-use Rattle.usart.specs.declared.sender.ShiftRegister.TheVariants.{Resting, Sending}
 use Rattle.usart.specs.declared.sender.Sender.{Sender}
 use Rattle.usart.specs.declared.sampler.Reception.{Reception}
 use Rattle.usart.specs.declared.sampler.Sampler.{Sampler}
@@ -21,19 +17,19 @@ use Rattle.record.specs.declared.parts.SenderParts.{SenderParts}
 use Rattle.record.specs.declared.parts.FrameParts.{FrameParts}
 use Rattle.record.specs.declared.parts.ReceiverParts.{ReceiverParts}
 
-abbrev pub buffer_data : Buffer → ℕ
-buffer_data Vacant = 0
-buffer_data (Full d) = d
+abbrev pub buffer_data : Option ℕ → ℕ
+buffer_data None = 0
+buffer_data (Some d) = d
 
-unfoldable pub buffer_from : Bool → ℕ → Buffer
-buffer_from full d = pick full (Full d) Vacant
+unfoldable pub buffer_from : Bool → ℕ → Option ℕ
+buffer_from full d = pick full (Some d) None
 
-abbrev pub transmission_in : ShiftRegister → Transmission
-transmission_in Resting = record { word = 0; bit = 0; sample = record { 0 = 0 } }
-transmission_in (Sending t) = t
+abbrev pub transmission_in : Option Transmission → Transmission
+transmission_in None = record { word = 0; bit = 0; sample = record { 0 = 0 } }
+transmission_in (Some t) = t
 
-unfoldable pub shifter_from : Bool → Transmission → ShiftRegister
-shifter_from sending t = pick sending (Sending t) Resting
+unfoldable pub shifter_from : Bool → Transmission → Option Transmission
+shifter_from sending t = pick sending (Some t) None
 
 abbrev pub sender_parts : Sender → SenderParts
 sender_parts s =

@@ -1,81 +1,57 @@
-ghost use Rattle.std.specs.Prelude.{◌≡◌, length};
-ghost use Rattle.record.specs.Layout.{record_length};
+ghost use Rattle.std.specs.Prelude.{◌≡◌, MatchResult, true, false};
+ghost use Rattle.answer.specs.declared.Refusal.TheVariants.{Record};
 ghost use Rattle.record.specs.Lift.{device_at};
 ghost use Rattle.record.specs.Accepts.{accepts, is_record};
 ghost use Rattle.record.specs.Codec.{decode_of, stored_over};
 
 use crate::encode::image;
-use crate::layout;
+use crate::layout::{self, Image};
 use crate::limits::within;
 use crate::spi_lift::spi_at;
 use crate::spi_tests::spi_fits;
 use crate::usart_lift::usart_at;
 use crate::usart_tests::{settings_fit, usart_fits};
+use answer::Refusal;
 use device::Device;
 
-#[derive(Clone, Copy)]
-pub enum Decoded {
-    Accepted(Device),
-    // Not 64 bytes, a field out of its range, or a byte that is not in use and not 0.
-    Refused,
-}
-
-// Writes an array over a record.
-fn put(b: [u8; layout::LENGTH], s: &mut [u8])
-    requires { length s.old ≡ record_length }
-    ensures { s.new ≡ b }
+#[tactic(auto, unfolding(crate::specs::Accepts::accepts))]
+pub(crate) fn fits(b: &Image) -> bool
+    ensures { result ≡ accepts b.now }
 {
-    s.copy_from_slice(&b);
+    within(b)
+        && b[layout::LAYOUT] == layout::NUMBER
+        && settings_fit(b)
+        && usart_fits(b)
+        && spi_fits(spi_at(b))
 }
 
-fn fits(s: &[u8]) -> bool
-    requires { length s.now ≡ record_length }
-    ensures { result ≡ accepts s.now }
-{
-    if !within(s) {
-        return false;
-    }
-    if s[layout::LAYOUT] != layout::NUMBER {
-        return false;
-    }
-    if !settings_fit(s) {
-        return false;
-    }
-    if !usart_fits(s) {
-        return false;
-    }
-    spi_fits(spi_at(s))
-}
-
+// The bytes of a slice that is a record: 64, with each field in its range, and 0 where they are not in use.
 #[tactic(auto, unfolding(crate::specs::Accepts::is_record))]
-pub(crate) fn is_record(s: &[u8]) -> bool
-    ensures { result ≡ is_record s.now }
+pub(crate) fn accepted(s: &[u8]) -> Result<&Image, Refusal>
+    ensures { MatchResult result (λ b. (b.now ≡ s.now) × (is_record s.now ≡ true))
+        (λ r. (r ≡ Record) × (is_record s.now ≡ false)) }
 {
-    if s.len() == layout::LENGTH {
-        return fits(s);
+    match s.as_array() {
+        Some(b) if fits(b) => Ok(b),
+        _ => Err(Refusal::Record),
     }
-    false
 }
 
-pub(crate) fn device_at(s: &[u8]) -> Device
-    requires { length s.now ≡ record_length }
-    ensures { result ≡ device_at s.now }
+pub(crate) fn device_at(b: &Image) -> Device
+    ensures { result ≡ device_at b.now }
 {
     Device {
-        usart: usart_at(s),
-        spi: spi_at(s),
+        usart: usart_at(b),
+        spi: spi_at(b),
     }
 }
 
 // The device of a record.
 #[tactic(auto, unfolding(crate::specs::Codec::decode_of))]
-pub fn decode(s: &[u8]) -> Decoded
+pub fn decode(s: &[u8]) -> Result<Device, Refusal>
     ensures { result ≡ decode_of s.now }
 {
-    if is_record(s) {
-        return Decoded::Accepted(device_at(s));
-    }
-    Decoded::Refused
+    accepted(s).map(device_at)
 }
 
 // Writes a device's record; a slice that is not as long as a record is left as it is.
@@ -83,7 +59,7 @@ pub fn decode(s: &[u8]) -> Decoded
 pub fn store(d: Device, s: &mut [u8])
     ensures { s.new ≡ stored_over d s.old }
 {
-    if s.len() == layout::LENGTH {
-        put(image(d), s);
+    if let Some(b) = s.as_mut_array() {
+        *b = image(d);
     }
 }

@@ -1,24 +1,24 @@
 ghost use Rattle.std.specs.Prelude.{◌≡◌, ◌+◌, ◌*◌};
-ghost use Rattle.usart.specs.Settings.{is_known, size_of};
 ghost use Rattle.record.specs.Codes.{size_code, known_size, marks_of, frame_from, flag_code, flag_of};
 
-use choice::digit;
 use frame::Size;
 use spi::Flag;
-use usart::{Coded, Frame};
+use usart::Frame;
+
+// The library's `from_le_bytes` by names for its bytes, and in numbers in the clause: it is called for many fields.
 
 // Two bytes, low byte first.
 pub fn word(low: u8, high: u8) -> u16
     ensures { result ≡ low + 256 * high }
 {
-    low as u16 + 256 * (high as u16)
+    u16::from_le_bytes([low, high])
 }
 
 // Three bytes, low byte first.
 pub fn triple(low: u8, middle: u8, high: u8) -> u32
     ensures { result ≡ low + 256 * middle + 65536 * high }
 {
-    low as u32 + 256 * (middle as u32) + 65536 * (high as u32)
+    u32::from_le_bytes([low, middle, high, 0])
 }
 
 // UCSZ2:0, from UCSR0B and UCSR0C.
@@ -28,32 +28,21 @@ pub fn size_code(b: u8, c: u8) -> u8
     b / 4 % 2 * 4 + c / 2 % 4
 }
 
-pub fn known(code: u8) -> bool
-    ensures { result ≡ is_known (size_of code) }
-{
-    let z = usart::size_of(code);
-    match z {
-        Coded::Known(_) => true,
-        Coded::Reserved => false,
-    }
-}
+// The codes of another crate's types have no `From` here: Rust lets only that crate give one, and the codes are the
+// record's.
 
 // The size of a code. A reserved one gives any: a record that has one is refused.
 pub fn known_size(code: u8) -> Size
     ensures { result ≡ known_size code }
 {
-    let z = usart::size_of(code);
-    match z {
-        Coded::Known(size) => size,
-        Coded::Reserved => Size::Eight,
-    }
+    usart::size_of(code).unwrap_or(Size::Eight)
 }
 
 // A frame's ninth data bit, UPE, DOR and FE, in bits 0 to 3.
 pub fn marks(f: Frame) -> u8
     ensures { result ≡ marks_of f }
 {
-    (f.data / 256 % 2) as u8 + digit(f.upe) * 2 + digit(f.dor) * 4 + digit(f.fe) * 8
+    (f.data / 256 % 2) as u8 + u8::from(f.upe) * 2 + u8::from(f.dor) * 4 + u8::from(f.fe) * 8
 }
 
 // The frame of its three bytes.
@@ -84,11 +73,9 @@ pub fn flag_code(f: Flag) -> u8
 pub fn flag_of(code: u8) -> Flag
     ensures { result ≡ flag_of code }
 {
-    if code == 1 {
-        return Flag::Set;
+    match code {
+        1 => Flag::Set,
+        2 => Flag::Armed,
+        _ => Flag::Clear,
     }
-    if code == 2 {
-        return Flag::Armed;
-    }
-    Flag::Clear
 }

@@ -1,6 +1,9 @@
 // Where each field of a record stands, and what each byte is at most (docs/RECORD.md).
 pub const LENGTH: usize = 64;
 
+// As many bytes as a record has, whether or not they are one.
+pub type Image = [u8; LENGTH];
+
 // The number that a record of this layout has at `LAYOUT`.
 pub const NUMBER: u8 = 2;
 
@@ -92,7 +95,7 @@ pub const LAYOUT: usize = 63;
 
 // What each byte is at most: 0 where it is unused.
 #[rattlefmt::skip]
-pub const MOST: [u8; LENGTH] = [
+pub const MOST: Image = [
     255, 15, 255, 15, 66, 253, 62, 0,
     1, 255, 1, 1, 255, 3, 12, 15,
     1, 1, 11, 15, 1, 1, 255, 3,

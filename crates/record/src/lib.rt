@@ -16,8 +16,8 @@ mod spi_tests;
 mod usart_lift;
 mod usart_tests;
 
-pub use codec::{Decoded, decode, store};
+pub use codec::{decode, store};
 pub use in_place::{Stepped, count};
 pub use layout::LENGTH;
 pub use put_back::{settle, settle_read};
-pub use report::{Reported, requests, split_votes};
+pub use report::{requests, split_votes};

@@ -1,21 +1,16 @@
-ghost use Rattle.std.specs.Prelude.{◌≡◌, length};
-ghost use Rattle.record.specs.Layout.{record_length, most};
+ghost use Rattle.std.specs.Prelude.{◌≡◌};
+ghost use Rattle.record.specs.Layout.{most};
 ghost use Rattle.record.specs.Accepts.{is_within};
 
-use crate::layout;
+use crate::layout::{self, Image};
 
-// All are looked at, also after one that is too large: with no way out of the loop the compiler tests many at a time.
-pub(crate) fn within(s: &[u8]) -> bool
-    requires { length s.now ≡ record_length }
-    ensures { result ≡ is_within s.now most }
+// All are looked at, also after one that is too large, and what is folded is a number: with no way out of the loop, and
+// no flag in it, the compiler tests many at a time.
+pub(crate) fn within(b: &Image) -> bool
+    ensures { result ≡ is_within b.now most }
 {
-    // A constant array would be made anew at each turn.
-    let most = layout::MOST;
-    let mut low = true;
-    let mut i = 0;
-    while i < layout::LENGTH {
-        low = low & (s[i] <= most[i]);
-        i += 1;
-    }
-    low
+    b.iter()
+        .zip(layout::MOST.iter())
+        .fold(0, |over: u8, (byte, most)| over | (byte > most) as u8)
+        == 0
 }

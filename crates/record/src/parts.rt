@@ -1,12 +1,9 @@
 ghost use Rattle.std.specs.Prelude.{◌≡◌};
-ghost use Rattle.usart.specs.Queue.{no_frame};
-ghost use Rattle.record.specs.Parts.{buffer_data, buffer_from, transmission_in, shifter_from, remembered_in};
-ghost use Rattle.record.specs.Parts.{reception_in, sampler_from, frame_parts, sender_parts, receiver_parts};
+ghost use Rattle.record.specs.Parts.{remembered_in, reception_in, frame_parts, sender_parts, receiver_parts};
 
-use usart::{
-    Buffer, Frame, Places, Receiver, Reception, Sample, Sampler, Sender, ShiftRegister,
-    Transmission,
-};
+use usart::{Frame, Places, Receiver, Reception, Sampler, Sender, Transmission};
+
+// The bytes have a flag beside each value (docs/RECORD.md), so the parts for them have too.
 
 // What the bytes hold of a sender, but TXC.
 #[derive(Clone, Copy)]
@@ -18,7 +15,7 @@ pub struct SenderParts {
 }
 
 // What the bytes hold of the frames held, and of the one that waits.
-#[derive(Clone, Copy)]
+#[derive(Clone, Copy, Default)]
 pub struct FrameParts {
     pub held: u8,
     pub waits: bool,
@@ -36,62 +33,14 @@ pub struct ReceiverParts {
     pub frames: FrameParts,
 }
 
-fn data(b: Buffer) -> u16
-    ensures { result ≡ buffer_data b }
-{
-    match b {
-        Buffer::Vacant => 0,
-        Buffer::Full(d) => d,
-    }
-}
-
-#[tactic(auto, unfolding(crate::specs::Parts::buffer_from))]
-pub fn buffer_of(full: bool, data: u16) -> Buffer
-    ensures { result ≡ buffer_from full «data» }
-{
-    if full {
-        return Buffer::Full(data);
-    }
-    Buffer::Vacant
-}
-
-fn transmission(s: ShiftRegister) -> Transmission
-    ensures { result ≡ transmission_in s }
-{
-    match s {
-        ShiftRegister::Resting => Transmission {
-            word: 0,
-            bit: 0,
-            sample: Sample(0),
-        },
-        ShiftRegister::Sending(t) => t,
-    }
-}
-
-#[tactic(auto, unfolding(crate::specs::Parts::shifter_from))]
-pub fn shifter_of(sending: bool, t: Transmission) -> ShiftRegister
-    ensures { result ≡ shifter_from sending t }
-{
-    if sending {
-        return ShiftRegister::Sending(t);
-    }
-    ShiftRegister::Resting
-}
-
 pub fn sender_parts(s: Sender) -> SenderParts
     ensures { result ≡ sender_parts s }
 {
-    let b = s.buffer;
-    let h = s.shifter;
-    let vacant = s.vacant();
-    let resting = s.resting();
-    let d = data(b);
-    let t = transmission(h);
     SenderParts {
-        full: !vacant,
-        data: d,
-        sending: !resting,
-        transmission: t,
+        full: s.buffer.is_some(),
+        data: s.buffer.unwrap_or(0),
+        sending: s.shifter.is_some(),
+        transmission: s.shifter.unwrap_or_default(),
     }
 }
 
@@ -109,65 +58,26 @@ fn reception(s: Sampler) -> Reception
     ensures { result ≡ reception_in s }
 {
     match s {
-        Sampler::Idle(_) => Reception {
-            bit: 0,
-            sample: Sample(0),
-            first: false,
-            second: false,
-            word: 0,
-            splits: 0,
-        },
+        Sampler::Idle(_) => Reception::default(),
         Sampler::Receiving(r) => r,
-    }
-}
-
-#[tactic(auto, unfolding(crate::specs::Parts::sampler_from))]
-pub fn sampler_of(receiving: bool, last: bool, r: Reception) -> Sampler
-    ensures { result ≡ sampler_from receiving last r }
-{
-    if receiving {
-        return Sampler::Receiving(r);
-    }
-    Sampler::Idle(last)
-}
-
-fn no_frame() -> Frame
-    ensures { result ≡ no_frame }
-{
-    Frame {
-        data: 0,
-        fe: false,
-        upe: false,
-        dor: false,
-        splits: 0,
     }
 }
 
 fn frame_parts(p: Places) -> FrameParts
     ensures { result ≡ frame_parts p }
 {
-    let none = no_frame();
     match p {
-        Places::Empty => FrameParts {
-            held: 0,
-            waits: false,
-            oldest: none,
-            second: none,
-            third: none,
-        },
+        Places::Empty => FrameParts::default(),
         Places::One(a) => FrameParts {
             held: 1,
-            waits: false,
             oldest: a,
-            second: none,
-            third: none,
+            ..FrameParts::default()
         },
         Places::Two(a, b) => FrameParts {
             held: 2,
-            waits: false,
             oldest: a,
             second: b,
-            third: none,
+            ..FrameParts::default()
         },
         Places::Three(a, b, c) => FrameParts {
             held: 2,
@@ -182,13 +92,10 @@ fn frame_parts(p: Places) -> FrameParts
 pub fn receiver_parts(r: Receiver) -> ReceiverParts
     ensures { result ≡ receiver_parts r }
 {
-    let s = r.sampler;
-    let q = r.queue;
-    let p = q.places;
     ReceiverParts {
-        receiving: s.receiving(),
-        last: remembered(s),
-        reception: reception(s),
-        frames: frame_parts(p),
+        receiving: r.sampler.receiving(),
+        last: remembered(r.sampler),
+        reception: reception(r.sampler),
+        frames: frame_parts(r.queue.places),
     }
 }

@@ -1,63 +1,57 @@
-ghost use Rattle.std.specs.Prelude.{◌≡◌, length};
-ghost use Rattle.record.specs.Layout.{record_length};
+ghost use Rattle.std.specs.Prelude.{◌≡◌};
 ghost use Rattle.record.specs.Lift.{spi_control_at, transfer_at, flags_at, pins_at, spi_at};
 
 use crate::codes::flag_of;
-use crate::layout;
+use crate::layout::{self, Image};
 use spi::{Clocks, Control, Flags, Pins, Spi, Transfer};
 
-fn control_at(s: &[u8]) -> Control
-    requires { length s.now ≡ record_length }
-    ensures { result ≡ spi_control_at s.now }
+fn control_at(b: &Image) -> Control
+    ensures { result ≡ spi_control_at b.now }
 {
     Control {
-        spcr: s[layout::SPCR],
-        spi2x: s[layout::SPI2X] == 1,
-        ddrb: s[layout::DDRB],
+        spcr: b[layout::SPCR],
+        spi2x: b[layout::SPI2X] == 1,
+        ddrb: b[layout::DDRB],
     }
 }
 
-fn transfer_at(s: &[u8]) -> Transfer
-    requires { length s.now ≡ record_length }
-    ensures { result ≡ transfer_at s.now }
+fn transfer_at(b: &Image) -> Transfer
+    ensures { result ≡ transfer_at b.now }
 {
     Transfer {
-        shift: s[layout::SHIFT],
-        received: s[layout::RECEIVED],
-        edges: s[layout::EDGES],
-        left: Clocks(s[layout::CLOCKS]),
+        shift: b[layout::SHIFT],
+        received: b[layout::RECEIVED],
+        edges: b[layout::EDGES],
+        left: Clocks(b[layout::CLOCKS]),
     }
 }
 
-fn flags_at(s: &[u8]) -> Flags
-    requires { length s.now ≡ record_length }
-    ensures { result ≡ flags_at s.now }
+fn flags_at(b: &Image) -> Flags
+    ensures { result ≡ flags_at b.now }
 {
     Flags {
-        spif: flag_of(s[layout::SPIF]),
-        wcol: flag_of(s[layout::WCOL]),
+        spif: flag_of(b[layout::SPIF]),
+        wcol: flag_of(b[layout::WCOL]),
     }
 }
 
-fn pins_at(s: &[u8]) -> Pins
-    requires { length s.now ≡ record_length }
-    ensures { result ≡ pins_at s.now }
+fn pins_at(b: &Image) -> Pins
+    ensures { result ≡ pins_at b.now }
 {
     Pins {
-        mosi: s[layout::MOSI] == 1,
-        miso: s[layout::MISO] == 1,
-        sck: s[layout::SCK] == 1,
+        mosi: b[layout::MOSI] == 1,
+        miso: b[layout::MISO] == 1,
+        sck: b[layout::SCK] == 1,
     }
 }
 
-pub(crate) fn spi_at(s: &[u8]) -> Spi
-    requires { length s.now ≡ record_length }
-    ensures { result ≡ spi_at s.now }
+pub(crate) fn spi_at(b: &Image) -> Spi
+    ensures { result ≡ spi_at b.now }
 {
     Spi {
-        control: control_at(s),
-        transfer: transfer_at(s),
-        flags: flags_at(s),
-        pins: pins_at(s),
+        control: control_at(b),
+        transfer: transfer_at(b),
+        flags: flags_at(b),
+        pins: pins_at(b),
     }
 }

@@ -1,38 +1,23 @@
-ghost use Rattle.std.specs.Prelude.{◌≡◌, ◌+◌, ◌≤◌, length};
+ghost use Rattle.std.specs.Prelude.{◌≡◌, ◌+◌, ◌≤◌};
 ghost use Rattle.record.specs.Layout.{record_length};
-ghost use Rattle.record.specs.Lift.{baud_at, format_with, format_of, format_at, control_of, control_at, buffer_at};
-ghost use Rattle.record.specs.Lift.{transmission_at, shifter_at, sender_with, sender_at, reception_at, sampler_at};
-ghost use Rattle.record.specs.Lift.{frame_at, places_at, queue_with, queue_at, receiver_at, usart_at};
+ghost use Rattle.record.specs.Lift.{baud_at, format_of, format_at, control_at, buffer_at};
+ghost use Rattle.record.specs.Lift.{transmission_at, shifter_at, sender_at, reception_at, sampler_at};
+ghost use Rattle.record.specs.Lift.{frame_at, places_at, queue_at, receiver_at, usart_at};
 
 use crate::codes::{frame_of, known_size, size_code, word};
-use crate::layout;
-use crate::parts::{buffer_of, sampler_of, shifter_of};
-use frame::{Format, Parity, Size};
+use crate::layout::{self, Image};
+use frame::Format;
 use usart::{
-    Baud, Buffer, Clocks, Control, Frame, Places, Queue, Receiver, Reception, Sample, Sampler,
-    Sender, ShiftRegister, Transmission, Usart,
+    Baud, Clocks, Control, Frame, Places, Queue, Receiver, Reception, Sample, Sampler, Sender,
+    Transmission, Usart,
 };
 
-pub(crate) fn baud_at(s: &[u8]) -> Baud
-    requires { length s.now ≡ record_length }
-    ensures { result ≡ baud_at s.now }
+pub(crate) fn baud_at(b: &Image) -> Baud
+    ensures { result ≡ baud_at b.now }
 {
-    let ubrr = word(s[layout::UBRR], s[layout::UBRR + 1]);
-    let left = word(s[layout::LEFT], s[layout::LEFT + 1]);
     Baud {
-        ubrr,
-        left: Clocks(left),
-    }
-}
-
-fn format_with(a: u8, c: u8, size: Size, parity: Parity) -> Format
-    ensures { result ≡ format_with a c size parity }
-{
-    Format {
-        size,
-        parity,
-        usbs: c / 8 % 2 == 1,
-        u2x: a / 2 % 2 == 1,
+        ubrr: word(b[layout::UBRR], b[layout::UBRR + 1]),
+        left: Clocks(word(b[layout::LEFT], b[layout::LEFT + 1])),
     }
 }
 
@@ -40,172 +25,136 @@ fn format_with(a: u8, c: u8, size: Size, parity: Parity) -> Format
 fn format_of(a: u8, b: u8, c: u8) -> Format
     ensures { result ≡ format_of a b c }
 {
-    format_with(
-        a,
-        c,
-        known_size(size_code(b, c)),
-        usart::parity_of(c / 16 % 4),
-    )
-}
-
-pub(crate) fn format_at(s: &[u8]) -> Format
-    requires { length s.now ≡ record_length }
-    ensures { result ≡ format_at s.now }
-{
-    format_of(s[layout::UCSR0A], s[layout::UCSR0B], s[layout::UCSR0C])
-}
-
-fn control_of(b: u8) -> Control
-    ensures { result ≡ control_of b }
-{
-    Control {
-        rxcie: b / 128 % 2 == 1,
-        txcie: b / 64 % 2 == 1,
-        udrie: b / 32 % 2 == 1,
-        rxen: b / 16 % 2 == 1,
-        txen: b / 8 % 2 == 1,
-        txb8: b / 1 % 2 == 1,
+    Format {
+        size: known_size(size_code(b, c)),
+        parity: usart::parity_of(c / 16 % 4),
+        usbs: c / 8 % 2 == 1,
+        u2x: a / 2 % 2 == 1,
     }
 }
 
-pub(crate) fn control_at(s: &[u8]) -> Control
-    requires { length s.now ≡ record_length }
-    ensures { result ≡ control_at s.now }
+pub(crate) fn format_at(b: &Image) -> Format
+    ensures { result ≡ format_at b.now }
 {
-    control_of(s[layout::UCSR0B])
+    format_of(b[layout::UCSR0A], b[layout::UCSR0B], b[layout::UCSR0C])
 }
 
-fn buffer_at(s: &[u8]) -> Buffer
-    requires { length s.now ≡ record_length }
-    ensures { result ≡ buffer_at s.now }
+#[tactic(auto, using(crate::proofs::RegisterLaws::control_same))]
+pub(crate) fn control_at(b: &Image) -> Control
+    ensures { result ≡ control_at b.now }
 {
-    buffer_of(
-        s[layout::FULL] == 1,
-        word(s[layout::DATA], s[layout::DATA + 1]),
-    )
+    Control::of(b[layout::UCSR0B])
 }
 
-pub(crate) fn transmission_at(s: &[u8]) -> Transmission
-    requires { length s.now ≡ record_length }
-    ensures { result ≡ transmission_at s.now }
+#[tactic(auto, unfolding(crate::specs::Parts::buffer_from))]
+fn buffer_at(b: &Image) -> Option<u16>
+    ensures { result ≡ buffer_at b.now }
+{
+    (b[layout::FULL] == 1).then_some(word(b[layout::DATA], b[layout::DATA + 1]))
+}
+
+pub(crate) fn transmission_at(b: &Image) -> Transmission
+    ensures { result ≡ transmission_at b.now }
 {
     Transmission {
-        word: word(s[layout::SENT_WORD], s[layout::SENT_WORD + 1]),
-        bit: s[layout::SENT_BIT],
-        sample: Sample(s[layout::SENT_TICKS]),
+        word: word(b[layout::SENT_WORD], b[layout::SENT_WORD + 1]),
+        bit: b[layout::SENT_BIT],
+        sample: Sample(b[layout::SENT_TICKS]),
     }
 }
 
-fn shifter_at(s: &[u8]) -> ShiftRegister
-    requires { length s.now ≡ record_length }
-    ensures { result ≡ shifter_at s.now }
+#[tactic(auto, unfolding(crate::specs::Parts::shifter_from))]
+fn shifter_at(b: &Image) -> Option<Transmission>
+    ensures { result ≡ shifter_at b.now }
 {
-    shifter_of(s[layout::SENDING] == 1, transmission_at(s))
+    (b[layout::SENDING] == 1).then_some(transmission_at(b))
 }
 
-fn sender_with(a: u8, buffer: Buffer, shifter: ShiftRegister) -> Sender
-    ensures { result ≡ sender_with a buffer shifter }
+pub(crate) fn sender_at(b: &Image) -> Sender
+    ensures { result ≡ sender_at b.now }
 {
     Sender {
-        buffer,
-        shifter,
-        txc: a / 64 % 2 == 1,
+        buffer: buffer_at(b),
+        shifter: shifter_at(b),
+        txc: b[layout::UCSR0A] / 64 % 2 == 1,
     }
 }
 
-pub(crate) fn sender_at(s: &[u8]) -> Sender
-    requires { length s.now ≡ record_length }
-    ensures { result ≡ sender_at s.now }
-{
-    sender_with(s[layout::UCSR0A], buffer_at(s), shifter_at(s))
-}
-
-pub(crate) fn reception_at(s: &[u8]) -> Reception
-    requires { length s.now ≡ record_length }
-    ensures { result ≡ reception_at s.now }
+pub(crate) fn reception_at(b: &Image) -> Reception
+    ensures { result ≡ reception_at b.now }
 {
     Reception {
-        bit: s[layout::BIT],
-        sample: Sample(s[layout::SAMPLES]),
-        first: s[layout::FIRST] == 1,
-        second: s[layout::SECOND] == 1,
-        word: word(s[layout::WORD], s[layout::WORD + 1]),
-        splits: s[layout::SPLITS],
+        bit: b[layout::BIT],
+        sample: Sample(b[layout::SAMPLES]),
+        first: b[layout::FIRST] == 1,
+        second: b[layout::SECOND] == 1,
+        word: word(b[layout::WORD], b[layout::WORD + 1]),
+        splits: b[layout::SPLITS],
     }
 }
 
-fn sampler_at(s: &[u8]) -> Sampler
-    requires { length s.now ≡ record_length }
-    ensures { result ≡ sampler_at s.now }
+#[tactic(auto, unfolding(crate::specs::Parts::sampler_from))]
+fn sampler_at(b: &Image) -> Sampler
+    ensures { result ≡ sampler_at b.now }
 {
-    sampler_of(
-        s[layout::RECEIVING] == 1,
-        s[layout::LAST] == 1,
-        reception_at(s),
-    )
+    if b[layout::RECEIVING] == 1 {
+        Sampler::Receiving(reception_at(b))
+    } else {
+        Sampler::Idle(b[layout::LAST] == 1)
+    }
 }
 
 // The frame whose bytes begin at i.
-fn frame_at(s: &[u8], i: usize) -> Frame
-    requires s_len { length s.now ≡ record_length }
-    requires i_bound { i + 3 ≤ record_length }
-    ensures { result ≡ frame_at s.now i }
+fn frame_at(b: &Image, i: usize) -> Frame
+    requires { i + 3 ≤ record_length }
+    ensures { result ≡ frame_at b.now i }
 {
-    frame_of(s[i], s[i + 1], s[i + 2])
+    frame_of(b[i], b[i + 1], b[i + 2])
 }
 
 // Only frames that are there are lifted. A count above 2 gives any places: a record that has one is refused before.
-fn places_at(s: &[u8]) -> Places
-    requires { length s.now ≡ record_length }
-    ensures { result ≡ places_at s.now }
+#[tactic(auto, unfolding(crate::specs::Parts::places_from))]
+fn places_at(b: &Image) -> Places
+    ensures { result ≡ places_at b.now }
 {
-    let held = s[layout::HELD];
-    if held == 0 {
-        return Places::Empty;
+    match b[layout::HELD] {
+        0 => Places::Empty,
+        1 => Places::One(frame_at(b, layout::OLDEST)),
+        _ if b[layout::WAITS] == 1 => Places::Three(
+            frame_at(b, layout::OLDEST),
+            frame_at(b, layout::NEXT),
+            frame_at(b, layout::THIRD),
+        ),
+        _ => Places::Two(frame_at(b, layout::OLDEST), frame_at(b, layout::NEXT)),
     }
-    let a = frame_at(s, layout::OLDEST);
-    if held == 1 {
-        return Places::One(a);
-    }
-    let b = frame_at(s, layout::NEXT);
-    if s[layout::WAITS] == 1 {
-        return Places::Three(a, b, frame_at(s, layout::THIRD));
-    }
-    Places::Two(a, b)
 }
 
-fn queue_with(lost: bool, places: Places) -> Queue
-    ensures { result ≡ queue_with lost places }
+fn queue_at(b: &Image) -> Queue
+    ensures { result ≡ queue_at b.now }
 {
-    Queue { places, lost }
+    Queue {
+        places: places_at(b),
+        lost: b[layout::LOST] == 1,
+    }
 }
 
-fn queue_at(s: &[u8]) -> Queue
-    requires { length s.now ≡ record_length }
-    ensures { result ≡ queue_at s.now }
-{
-    queue_with(s[layout::LOST] == 1, places_at(s))
-}
-
-fn receiver_at(s: &[u8]) -> Receiver
-    requires { length s.now ≡ record_length }
-    ensures { result ≡ receiver_at s.now }
+fn receiver_at(b: &Image) -> Receiver
+    ensures { result ≡ receiver_at b.now }
 {
     Receiver {
-        sampler: sampler_at(s),
-        queue: queue_at(s),
+        sampler: sampler_at(b),
+        queue: queue_at(b),
     }
 }
 
-pub(crate) fn usart_at(s: &[u8]) -> Usart
-    requires { length s.now ≡ record_length }
-    ensures { result ≡ usart_at s.now }
+pub(crate) fn usart_at(b: &Image) -> Usart
+    ensures { result ≡ usart_at b.now }
 {
     Usart {
-        baud: baud_at(s),
-        format: format_at(s),
-        control: control_at(s),
-        sender: sender_at(s),
-        receiver: receiver_at(s),
+        baud: baud_at(b),
+        format: format_at(b),
+        control: control_at(b),
+        sender: sender_at(b),
+        receiver: receiver_at(b),
     }
 }

@@ -1,22 +1,15 @@
-use Rattle.std.proofs.Common.{◌≡◌, ◌<◌, Bool, false, length, sym, ap, refl, ◌∙◌, arith}
-use Rattle.choice.specs.Pick.{pick}
-use Rattle.choice.proofs.Picks.{pick-self}
-use Rattle.record.specs.Layout.{record_length, most}
-use Rattle.record.proofs.ListLaws.{within_on, within_end}
+use Rattle.std.proofs.Common.{rules, ℕ, bit_or, eqb, ltb, ap, ◌∙◌}
+use Rattle.std.proofs.lemmas.Iterator.{YieldsList-from_slice, YieldsList-from_zip}
+use Rattle.std.proofs.lemmas.Iterator.Consumers.{fold_from_yields_List}
+use mir.Val.{bool_byte}
+use borrow.Author.Tests.{tests}
+use Rattle.record.specs.Layout.{most}
+use Rattle.record.proofs.ListLaws.{within-folded}
 use Rattle.record.proofs.limits.within.Goals as goal
-
-pub loop-i-preserved : goal.loop-i-preserved
-loop-i-preserved c =
-    let s = c.args.s.now in
-    let h : c.loop-i.i < length s = omega arith in
-    let k : c.loop-i.i < length most = omega arith in
-    (omega arith, within_on s most c.loop-i.i h k c.loop-i.low _ _ _ refl refl c.loop-i.invariant.1)
 
 pub returns : goal.returns
 returns c =
-    let s = c.args.s.now in
-    let end : c.loop-i.i ≡ record_length = omega (arith, c.loop-i.invariant.0) in
-    let full : c.loop-i.i ≡ length s = omega arith in
-    sym (pick-self c.loop-i.low)
-    ∙ sym (ap (λ (b : Bool). pick c.loop-i.low b false) (within_end s most c.loop-i.i full end))
-    ∙ c.loop-i.invariant.1
+    let over = fold_from_yields_List _ (λ (over : ℕ) (p : ℕ × ℕ). bit_or over (bool_byte (ltb p.1 p.0))) 0 c.fold.result c.fold.ensures.ran
+    (YieldsList-from_zip (YieldsList-from_slice c.args.b.now cc) (YieldsList-from_slice most cc))
+    (λ a x b q k. search (rules, tests)) in
+    ap (λ (n : ℕ). eqb n 0) over ∙ within-folded c.args.b.now most 0
