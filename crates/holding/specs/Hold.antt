@@ -1,30 +1,28 @@
 -- The call that holds one level byte for many clocks (document 02, M-106: 'It must equal that many single clocks'):
 -- what it answers, the last output byte, and every byte of the record after it.
-use Rattle.std.specs.Prelude.{ℕ, ◌+◌, List, ◌≡◌, ltb, replicate}
+use Rattle.std.specs.Prelude.{ℕ, ◌+◌, List, ◌≡◌, ltb, replicate, Err, Ok, Result}
 use Rattle.choice.specs.Pick.{pick}
-use Rattle.answer.specs.declared.Refusal.TheVariants.{Record, Level}
+use Rattle.answer.specs.declared.Refusal.TheVariants.{Level}
 use Rattle.device.specs.Holding.{last_of}
 use Rattle.device.specs.Outcome.{read_answer_of, value_of}
 use Rattle.device.specs.Run.{ran_of, outputs_of}
-use Rattle.device.specs.declared.outcome.Reading.{Reading}
-use Rattle.device.specs.declared.outcome.Reading.TheVariants.{Done, Refused}
 use Rattle.device.specs.declared.unit.Device.{Device}
 use Rattle.record.specs.Codec.{decode_of}
 use Rattle.record.specs.Kept.{kept_by_read}
-use Rattle.record.specs.declared.codec.Decoded.{Decoded}
-use Rattle.record.specs.declared.codec.Decoded.TheVariants.{Accepted, Refused as NoDevice}
+use Rattle.answer.specs.declared.Refusal.{Refusal}
+use Rattle.answer.specs.declared.Reading.{Reading}
 
 -- a run of as many equal level bytes, of whose output bytes the last is answered, 0 where there is none; 7 'also for no
 -- clocks'
-unfoldable pub hold_in : Device → ℕ → ℕ → Reading
+unfoldable pub hold_in : Device → ℕ → ℕ → Result (Reading Device) Refusal
 hold_in d level clocks =
     let levels : List ℕ = replicate clocks level in
-    pick (ltb level 32) (Done (last_of 0 (outputs_of d levels)) (ran_of d levels)) (Refused Level)
+    pick (ltb level 32) (Ok (record { value = last_of 0 (outputs_of d levels); after = ran_of d levels })) (Err Level)
 
 -- 5 goes before
-unfoldable pub hold_on : Decoded → ℕ → ℕ → Reading
-hold_on (Accepted d) level clocks = hold_in d level clocks
-hold_on NoDevice level clocks = Refused Record
+unfoldable pub hold_on : Result Device Refusal → ℕ → ℕ → Result (Reading Device) Refusal
+hold_on (Ok d) level clocks = hold_in d level clocks
+hold_on (Err r) level clocks = Err r
 
 abbrev pub hold_answer : List ℕ → ℕ → ℕ → ℕ
 hold_answer s level clocks = read_answer_of (hold_on (decode_of s) level clocks)

@@ -12,13 +12,11 @@ use Rattle.device.specs.Holding.{clock_at, held_of}
 use Rattle.device.specs.Run.{outputs_of}
 use Rattle.device.specs.Unit.{reset_device}
 use Rattle.device.specs.declared.unit.Device.{Device}
-use Rattle.trace.specs.Contents.{contents_of}
+use Rattle.trace.specs.Contents.{Check, passed, contents_of}
 use Rattle.trace.specs.Promises.{units_of, expanded_of, SameText}
 use Rattle.trace.specs.Shrinking.{shrunk_text}
 use Rattle.trace.specs.declared.item.Item.{Item}
 use Rattle.trace.specs.declared.item.Item.TheVariants.{Write, Read, Vector, Clocks}
-use Rattle.trace.specs.declared.text.Check.{Check}
-use Rattle.trace.specs.declared.text.Check.TheVariants.{WellFormed}
 use Rattle.trace.proofs.Promised.{shrinks}
 use Rattle.playback.specs.Replay.{step_of, played_from, replay_by, replay_of, outcome_number}
 use Rattle.playback.specs.Showing.{shown_at, shown_from, shown_by, shown_of, Alike}
@@ -108,10 +106,10 @@ seen-expanded (i ∷ is) d a b = seen-item i (expanded_of is) d a b ∙ seen-bef
 abbrev seen_by : List ℕ → Seen
 seen_by text = seen_of (replay_of text) (shown_of text)
 
-well-seen : (text : List ℕ) → (contents_of text).check ≡ WellFormed → seen_by text ≡ seen reset_device 2 (contents_of text).items
+well-seen : (text : List ℕ) → (contents_of text).check ≡ passed → seen_by text ≡ seen reset_device 2 (contents_of text).items
 well-seen text w = ap (λ (c : Check). seen_of (replay_by c (contents_of text).items) (shown_by c (contents_of text).items)) w
 
-module _ (text other : List ℕ) (w : (contents_of text).check ≡ WellFormed) (v : (contents_of other).check ≡ WellFormed) (e : SameText text other) where
+module _ (text other : List ℕ) (w : (contents_of text).check ≡ passed) (v : (contents_of other).check ≡ passed) (e : SameText text other) where
   seen_alike : seen reset_device 2 (contents_of text).items ≡ seen reset_device 2 (contents_of other).items
   seen_alike =
       sym (seen-expanded (contents_of text).items reset_device 2 2) ∙ ap (seen reset_device 2) e ∙ seen-expanded (contents_of other).items reset_device 2 2
@@ -127,5 +125,5 @@ module _ (text other : List ℕ) (w : (contents_of text).check ≡ WellFormed) (
       all : seen_by text ≡ seen_by other
       all = well-seen text w ∙ seen_alike ∙ sym (well-seen other v)
 
-pub shrunk-replay : (text : List ℕ) → (contents_of text).check ≡ WellFormed → Alike (shrunk_text text) text
+pub shrunk-replay : (text : List ℕ) → (contents_of text).check ≡ passed → Alike (shrunk_text text) text
 shrunk-replay text w = let s = shrinks text w in replay-alike (shrunk_text text) text s.well w s.same

@@ -1,22 +1,21 @@
 -- What the code of a replay is proved from. The loop: what is left of the text gives what the whole gives.
-use Prim.Native.Nat.{ℕ, ◌+◌, ◌<◌, ◌≤◌}
+use Prim.Native.Nat.{ℕ, ◌+◌, ◌-◌, ◌≤◌}
 use mathlib.Core.Path.{◌≡◌, refl, ap, sym, ◌∙◌}
 use mathlib.Core.Bool.{true, false}
 use mathlib.Core.List.{List, [], ◌∷◌}
 use native.Mathlib.Omega.{arith}
 use lib.ListN.{length}
+use Rattle.std.specs.Prelude.{Result, Ok, Err}
 use Rattle.answer.specs.declared.Refusal.TheVariants.{Malformed as BadText, Different}
 use Rattle.device.specs.Unit.{reset_device}
 use Rattle.device.specs.declared.unit.Device.{Device}
-use Rattle.trace.specs.Contents.{Contents, contents_at, contents_of}
-use Rattle.trace.specs.Line.{line_at}
+use Rattle.trace.specs.Contents.{Check, passed, malformed_at, items_in, contents_at, contents_of}
+use Rattle.trace.specs.Lines.{lines_from}
 use Rattle.trace.specs.declared.item.Item.{Item}
-use Rattle.trace.specs.declared.line.Line.TheVariants.{Found, Malformed, End}
-use Rattle.trace.specs.declared.text.Check.{Check}
-use Rattle.trace.specs.declared.text.Check.TheVariants.{WellFormed, Malformed as BadLine}
-use Rattle.trace.proofs.ContentsLaws.{well-contents, line_after, contents-found, contents-malformed, contents-end, contents-over}
-use Rattle.playback.specs.Replay.{step_of, ended, played_from, replay_by, replay_of}
-use Rattle.playback.specs.declared.replaying.Outcome.TheVariants.{Done, Refused}
+use Rattle.trace.specs.declared.line.NoItem.{NoItem}
+use Rattle.trace.proofs.ContentsLaws.{well-contents}
+use Rattle.trace.proofs.LinesLaws.{lines-most}
+use Rattle.playback.specs.Replay.{step_of, finished, stopped_at, ended, played_from, replay_by, replay_of}
 use Rattle.playback.specs.declared.replaying.Replayed.{Replayed}
 use Rattle.playback.specs.declared.step.Step.{Step}
 
@@ -26,66 +25,76 @@ unfolding played_from
 played-same d line i is h = rw h
 
 pub played-other : (d : Device) (line : ℕ) (i : Item) (is : List Item) → (step_of d i).same ≡ false
-    → played_from d line (i ∷ is) ≡ ended (step_of d i).device (Refused Different line)
+    → played_from d line (i ∷ is) ≡ ended (step_of d i).device (stopped_at Different line)
 unfolding played_from
 played-other d line i is h = rw h
 
-pub played-end : (d : Device) (line : ℕ) → played_from d line [] ≡ ended d Done
+pub played-end : (d : Device) (line : ℕ) → played_from d line [] ≡ ended d finished
 unfolding played_from
 played-end d line = refl
 
 abbrev whole : List ℕ → Replayed
 whole text = played_from reset_device 2 (contents_at text 8 2).items
 
-pub record Playing (text : List ℕ) (d : Device) (at line : ℕ) : Type 0 where
-  pub small : line < at
-  pub left : played_from d line (contents_at text at line).items ≡ whole text
+-- after n lines, these are left; every line has a byte
+pub record Playing (text : List ℕ) (d : Device) (n : ℕ) (lines : List (Result Item NoItem)) : Type 0 where
+  pub small : n + length lines ≤ length text - 8
+  pub left : played_from d (n + 2) (items_in lines) ≡ whole text
 
-pub playing-start : (text : List ℕ) (d : Device) → d ≡ reset_device → Playing text d 8 2
-playing-start text d e = record { small = omega arith; left = ap (λ (x : Device). played_from x 2 (contents_at text 8 2).items) e }
+pub playing-start : (text : List ℕ) (d : Device) → d ≡ reset_device → Playing text d 0 (lines_from text 8)
+playing-start text d e = record {
+  small = omega (arith, lines-most text 8);
+  left = ap (λ (x : Device). played_from x 2 (items_in (lines_from text 8))) e;
+}
 
-module _ (text : List ℕ) (d : Device) (at line : ℕ) (p : Playing text d at line) where
-  -- with the items that stand there
-  left_by : (c : Contents) → contents_at text at line ≡ c → played_from d line c.items ≡ whole text
-  left_by c e = ap (λ (x : Contents). played_from d line x.items) (sym e) ∙ p.left
+module _ (text : List ℕ) (d : Device) (n : ℕ) (lines : List (Result Item NoItem)) (p : Playing text d n lines) where
+  -- with the lines that stand there
+  left_by : (others : List (Result Item NoItem)) → lines ≡ others → played_from d (n + 2) (items_in others) ≡ whole text
+  left_by others e = ap (λ (l : List (Result Item NoItem)). played_from d (n + 2) (items_in l)) (sym e) ∙ p.left
 
-  module _ (i : Item) (next : ℕ) (s : Step) (e : line_at text at ≡ Found i next) (q : s ≡ step_of d i) where
-    playing-small : line + 1 < next
-    playing-small = omega (arith, line_after text at i next e, p.small)
+  module _ (line : Result Item NoItem) (rest : List (Result Item NoItem)) (e : lines ≡ line ∷ rest) (i : Item) (o : line ≡ Ok i) (s : Step) (q : s ≡ step_of d i) where
+    next-item : played_from d (n + 2) (i ∷ items_in rest) ≡ whole text
+    unfolding items_in
+    next-item = left_by (Ok i ∷ rest) (e ∙ ap (λ (l : Result Item NoItem). l ∷ rest) o)
 
-    pub playing-on : s.same ≡ true → Playing text s.device next (line + 1)
-    playing-on h = record {
-      small = playing-small;
-      left =
-          ap (λ (x : Step). played_from x.device (line + 1) (contents_at text next (line + 1)).items) q
-          ∙ sym (played-same d line i (contents_at text next (line + 1)).items (ap (λ (x : Step). x.same) (sym q) ∙ h))
-          ∙ left_by _ (contents-found text at line i next e);
-    }
+    pub playing-small : n + 9 ≤ length text
+    playing-small = omega (arith, ap length e, p.small)
 
-    pub playing-other : s.same ≡ false → ended s.device (Refused Different line) ≡ whole text
+    pub playing-on : s.same ≡ true → Playing text s.device (n + 1) rest
+    playing-on h =
+        let k : n + 1 + 2 ≡ n + 2 + 1 = omega arith in
+        record {
+          small = omega (arith, ap length e, p.small);
+          left =
+              ap (λ (m : ℕ). played_from s.device m (items_in rest)) k
+              ∙ ap (λ (x : Step). played_from x.device (n + 2 + 1) (items_in rest)) q
+              ∙ sym (played-same d (n + 2) i (items_in rest) (ap (λ (x : Step). x.same) (sym q) ∙ h)) ∙ next-item;
+        }
+
+    pub playing-other : s.same ≡ false → ended s.device (stopped_at Different (n + 2)) ≡ whole text
     playing-other h =
-        ap (λ (x : Step). ended x.device (Refused Different line)) q
-        ∙ sym (played-other d line i (contents_at text next (line + 1)).items (ap (λ (x : Step). x.same) (sym q) ∙ h))
-        ∙ left_by _ (contents-found text at line i next e)
+        ap (λ (x : Step). ended x.device (stopped_at Different (n + 2))) q
+        ∙ sym (played-other d (n + 2) i (items_in rest) (ap (λ (x : Step). x.same) (sym q) ∙ h)) ∙ next-item
 
-  pub playing-malformed : line_at text at ≡ Malformed → ended d Done ≡ whole text
-  playing-malformed e = sym (played-end d line) ∙ left_by _ (contents-malformed text at line e)
+  pub playing-malformed : (line : Result Item NoItem) (rest : List (Result Item NoItem)) → lines ≡ line ∷ rest → (bad : NoItem) → line ≡ Err bad
+      → ended d finished ≡ whole text
+  unfolding items_in
+  playing-malformed line rest e bad o =
+      sym (played-end d (n + 2)) ∙ left_by (Err bad ∷ rest) (e ∙ ap (λ (l : Result Item NoItem). l ∷ rest) o)
 
-  pub playing-end : line_at text at ≡ End → ended d Done ≡ whole text
-  playing-end e = sym (played-end d line) ∙ left_by _ (contents-end text at line e)
-
-  pub playing-over : length text ≤ at → ended d Done ≡ whole text
-  playing-over h = sym (played-end d line) ∙ left_by _ (contents-over text at line h)
+  pub playing-over : lines ≡ [] → ended d finished ≡ whole text
+  unfolding items_in
+  playing-over e = sym (played-end d (n + 2)) ∙ left_by [] e
 
 -- the two ways that the code goes
-pub replay-well : (text : List ℕ) (c : Check) (r : Replayed) → c ≡ (contents_of text).check → c ≡ WellFormed
+pub replay-well : (text : List ℕ) (c : Check) (r : Replayed) → c ≡ (contents_of text).check → c ≡ passed
     → r ≡ played_from reset_device 2 (contents_at text 8 2).items → r ≡ replay_of text
 replay-well text c r p q e =
-    let w : (contents_of text).check ≡ WellFormed = sym p ∙ q in
+    let w : (contents_of text).check ≡ passed = sym p ∙ q in
     e ∙ ap (λ (is : List Item). played_from reset_device 2 is) (ap (λ (x : _). x.items) (sym (well-contents text w)))
     ∙ ap (λ (x : Check). replay_by x (contents_of text).items) (sym w)
 
-pub replay-malformed : (text : List ℕ) (c : Check) (line : ℕ) (d : Device) → c ≡ (contents_of text).check → c ≡ BadLine line → d ≡ reset_device
-    → ended d (Refused BadText line) ≡ replay_of text
+pub replay-malformed : (text : List ℕ) (c : Check) (line : ℕ) (d : Device) → c ≡ (contents_of text).check → c ≡ malformed_at line → d ≡ reset_device
+    → ended d (stopped_at BadText line) ≡ replay_of text
 replay-malformed text c line d p q e =
-    ap (λ (x : Device). ended x (Refused BadText line)) e ∙ ap (λ (x : Check). replay_by x (contents_of text).items) (sym q ∙ p)
+    ap (λ (x : Device). ended x (stopped_at BadText line)) e ∙ ap (λ (x : Check). replay_by x (contents_of text).items) (sym q ∙ p)

@@ -13,15 +13,13 @@ use Rattle.device.specs.Outcome.{answer_of, read_answer_of, value_of}
 use Rattle.device.specs.Register.{write_of, read_of, vector_of}
 use Rattle.device.specs.Unit.{reset_device}
 use Rattle.device.specs.declared.unit.Device.{Device}
-use Rattle.trace.specs.Contents.{contents_of}
+use Rattle.trace.specs.Contents.{Check, contents_of}
 use Rattle.trace.specs.Meaning.{IsText}
 use Rattle.trace.specs.declared.item.Item.{Item}
 use Rattle.trace.specs.declared.item.Item.TheVariants.{Write, Read, Vector, Clocks}
-use Rattle.trace.specs.declared.text.Check.{Check}
 use Rattle.trace.proofs.Reading.{reads}
-use Rattle.playback.specs.Replay.{step_of, ended, played_from, replay_by, replay_of}
+use Rattle.playback.specs.Replay.{step_of, finished, stopped_at, ended, played_from, replay_by, replay_of}
 use Rattle.playback.specs.Meaning.{after_items, Agrees, AllAgree, Replays}
-use Rattle.playback.specs.declared.replaying.Outcome.TheVariants.{Done, Refused}
 use Rattle.playback.proofs.Playing.{played-same, played-other, played-end}
 
 -- the comparison says whether the device agrees
@@ -46,17 +44,17 @@ module _ (d : Device) where
   agrees-same (Vector k n) e = eq-eqb (answer_of (vector_of d k)) n e
   agrees-same (Clocks l c) e = refl
 
-played-all : (d : Device) (line : ℕ) (is : List Item) → AllAgree d is → played_from d line is ≡ ended (after_items d is) Done
+played-all : (d : Device) (line : ℕ) (is : List Item) → AllAgree d is → played_from d line is ≡ ended (after_items d is) finished
 played-all d line [] a = played-end d line
 played-all d line (i ∷ is) a = played-same d line i is (agrees-same d i a.0) ∙ played-all (step_of d i).device (line + 1) is a.1
 
 played-first : (d : Device) (line : ℕ) (is : List Item) (i : Item) (js : List Item) → AllAgree d is → (Agrees (after_items d is) i → ⊥)
-    → played_from d line (is ++ i ∷ js) ≡ ended (step_of (after_items d is) i).device (Refused Different (line + length is))
-played-first d line [] i js a h = let z : line ≡ line + 0 = omega arith in played-other d line i js (disagrees-other d i h) ∙ ap (λ (n : ℕ). ended (step_of d i).device (Refused Different n)) z
+    → played_from d line (is ++ i ∷ js) ≡ ended (step_of (after_items d is) i).device (stopped_at Different (line + length is))
+played-first d line [] i js a h = let z : line ≡ line + 0 = omega arith in played-other d line i js (disagrees-other d i h) ∙ ap (λ (n : ℕ). ended (step_of d i).device (stopped_at Different n)) z
 played-first d line (k ∷ is) i js a h =
     let z : line + 1 + length is ≡ line + length (k ∷ is) = omega arith in
     played-same d line k (is ++ i ∷ js) (agrees-same d k a.0) ∙ played-first (step_of d k).device (line + 1) is i js a.1 h
-    ∙ ap (λ (n : ℕ). ended (step_of (after_items (step_of d k).device is) i).device (Refused Different n)) z
+    ∙ ap (λ (n : ℕ). ended (step_of (after_items (step_of d k).device is) i).device (stopped_at Different n)) z
 
 -- a well-formed text is played
 well-played : (text : List ℕ) (is : List Item) → IsText text is → replay_of text ≡ played_from reset_device 2 is

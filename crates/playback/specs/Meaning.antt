@@ -8,8 +8,7 @@ use Rattle.device.specs.declared.unit.Device.{Device}
 use Rattle.trace.specs.Meaning.{IsText, MalformedAt}
 use Rattle.trace.specs.declared.item.Item.{Item}
 use Rattle.trace.specs.declared.item.Item.TheVariants.{Write, Read, Vector, Clocks}
-use Rattle.playback.specs.Replay.{step_of, ended, replay_of}
-use Rattle.playback.specs.declared.replaying.Outcome.TheVariants.{Done, Refused}
+use Rattle.playback.specs.Replay.{step_of, finished, stopped_at, ended, replay_of}
 
 -- the device after items
 abbrev pub after_items : Device → List Item → Device
@@ -30,10 +29,10 @@ AllAgree d (i ∷ is) = Agrees d i × AllAgree (step_of d i).device is
 -- every text is well-formed or malformed at one line (`Reads`), so one of the three applies
 pub record Replays (text : List ℕ) : Type 0 where
   -- all answered as recorded
-  pub done : (is : List Item) → IsText text is → AllAgree reset_device is → replay_of text ≡ ended (after_items reset_device is) Done
+  pub done : (is : List Item) → IsText text is → AllAgree reset_device is → replay_of text ≡ ended (after_items reset_device is) finished
   -- the first that is not: its line, and the device as after it
   pub different : (is : List Item) (i : Item) (js : List Item) → IsText text (is ++ i ∷ js) → AllAgree reset_device is
       → (Agrees (after_items reset_device is) i → ⊥)
-      → replay_of text ≡ ended (step_of (after_items reset_device is) i).device (Refused Different (2 + length is))
+      → replay_of text ≡ ended (step_of (after_items reset_device is) i).device (stopped_at Different (2 + length is))
   -- no item is played
-  pub malformed : (line : ℕ) → MalformedAt text line → replay_of text ≡ ended reset_device (Refused Malformed line)
+  pub malformed : (line : ℕ) → MalformedAt text line → replay_of text ≡ ended reset_device (stopped_at Malformed line)

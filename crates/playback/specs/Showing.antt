@@ -1,15 +1,13 @@
 -- What a replay shows (document 02, M-109: 'replay ends in the same device with the same outputs and number'): the
 -- output byte after each of its clocks, which its calls do not answer.
-use Rattle.std.specs.Prelude.{ℕ, List, [], ◌∷◌, ◌++◌, ◌≡◌, replicate}
+use Rattle.std.specs.Prelude.{ℕ, Ok, Err, List, [], ◌∷◌, ◌++◌, ◌≡◌, replicate}
 use Rattle.choice.specs.Pick.{pick}
 use Rattle.device.specs.Run.{outputs_of}
 use Rattle.device.specs.Unit.{reset_device}
 use Rattle.device.specs.declared.unit.Device.{Device}
-use Rattle.trace.specs.Contents.{contents_of}
+use Rattle.trace.specs.Contents.{Check, contents_of}
 use Rattle.trace.specs.declared.item.Item.{Item}
 use Rattle.trace.specs.declared.item.Item.TheVariants.{Write, Read, Vector, Clocks}
-use Rattle.trace.specs.declared.text.Check.{Check}
-use Rattle.trace.specs.declared.text.Check.TheVariants.{WellFormed, Malformed}
 use Rattle.playback.specs.Replay.{step_of, replay_of, outcome_number}
 
 -- of one item: a call passes no clock
@@ -26,8 +24,8 @@ shown_from d (i ∷ is) = shown_at d i ++ pick (step_of d i).same (shown_from (s
 
 -- a malformed text plays no item
 abbrev pub shown_by : Check → List Item → List ℕ
-shown_by WellFormed is = shown_from reset_device is
-shown_by (Malformed line) is = []
+shown_by (Ok tt) is = shown_from reset_device is
+shown_by (Err bad) is = []
 
 abbrev pub shown_of : List ℕ → List ℕ
 shown_of text = shown_by (contents_of text).check (contents_of text).items

@@ -4,4 +4,4 @@
 mod replaying;
 mod step;
 
-pub use replaying::{Outcome, Replayed, replay};
+pub use replaying::{Replayed, Stopped, replay};

@@ -2,44 +2,42 @@
 ghost use Rattle.std.specs.Prelude.{◌≡◌};
 ghost use Rattle.device.specs.Unit.{reset_device};
 ghost use Rattle.trace.specs.Contents.{contents_at};
-ghost use Rattle.playback.specs.Replay.{ended, played_from, replay_of};
-ghost use Rattle.playback.specs.declared.replaying.Outcome.TheVariants.{Done, Refused};
+ghost use Rattle.playback.specs.Replay.{finished, stopped_at, ended, played_from, replay_of};
 
 use crate::step::stepped;
 use answer::Refusal;
 use device::Device;
-use trace::{Check, Line, check_text, read_line};
+use trace::{FIRST_ITEM, Reader, check_text};
 
+// Why a replay ended before its time, and at which line, from 1.
 #[derive(Clone, Copy)]
-pub enum Outcome {
-    // Every item was answered as it was recorded.
-    Done,
-    // Malformed, or answered otherwise; and the line, from 1.
-    Refused(Refusal, usize),
+pub struct Stopped {
+    pub why: Refusal,
+    pub line: usize,
 }
 
-// The device after a replay, and how it ended.
+// The device after a replay, and how it ended: with every item answered as it was recorded, or where it stopped.
 #[derive(Clone, Copy)]
 pub struct Replayed {
     pub device: Device,
-    pub outcome: Outcome,
+    pub outcome: Result<(), Stopped>,
 }
 
-fn done(d: Device) -> Replayed
-    ensures { result ≡ ended d Done }
+fn done(device: Device) -> Replayed
+    ensures { result ≡ ended device finished }
 {
     Replayed {
-        device: d,
-        outcome: Outcome::Done,
+        device,
+        outcome: Ok(()),
     }
 }
 
-fn refused(d: Device, why: Refusal, line: usize) -> Replayed
-    ensures { result ≡ ended d (Refused why line) }
+fn refused(device: Device, why: Refusal, line: usize) -> Replayed
+    ensures { result ≡ ended device (stopped_at why line) }
 {
     Replayed {
-        device: d,
-        outcome: Outcome::Refused(why, line),
+        device,
+        outcome: Err(Stopped { why, line }),
     }
 }
 
@@ -48,25 +46,14 @@ fn play(text: &[u8]) -> Replayed
     ensures { result ≡ played_from reset_device 2 (contents_at text.now 8 2).items }
 {
     let mut d = Device::reset();
-    let mut at: usize = 8;
-    let mut line: usize = 2;
-    while at < text.len() {
-        match read_line(text, at) {
-            Line::Found(i, next) => {
-                let s = stepped(d, i);
-                d = s.device;
-                if !s.same {
-                    return refused(d, Refusal::Different, line);
-                }
-                at = next;
-                line += 1;
-            }
-            Line::Malformed => {
-                return done(d);
-            }
-            Line::End => {
-                return done(d);
-            }
+    for (n, line) in Reader::past_first(text).enumerate() {
+        let Ok(item) = line else {
+            break;
+        };
+        let step = stepped(d, item);
+        d = step.device;
+        if !step.same {
+            return refused(d, Refusal::Different, n + FIRST_ITEM);
         }
     }
     done(d)
@@ -77,7 +64,7 @@ pub fn replay(text: &[u8]) -> Replayed
     ensures { result ≡ replay_of text.now }
 {
     match check_text(text) {
-        Check::WellFormed => play(text),
-        Check::Malformed(line) => refused(Device::reset(), Refusal::Malformed, line),
+        Ok(()) => play(text),
+        Err(bad) => refused(Device::reset(), Refusal::Malformed, bad.line),
     }
 }

@@ -2,11 +2,12 @@
 ghost use Rattle.std.specs.Prelude.{◌≡◌};
 ghost use Rattle.playback.specs.Replay.{written_step, read_step, step_of};
 
-use device::{Device, Reading, Written};
+use answer::{Reading, Refusal};
+use device::Device;
 use span::Span;
 use trace::Item;
 
-// The device after an item, and whether it was answered as it was recorded.
+// The device after an item, and whether it was answered as it was recorded. No Result: there is a device either way.
 #[derive(Clone, Copy)]
 pub struct Step {
     pub device: Device,
@@ -14,15 +15,15 @@ pub struct Step {
 }
 
 // After a write or a vector.
-fn written(d: Device, w: Written, answer: u8) -> Step
+fn written(d: Device, w: Result<Device, Refusal>, answer: u8) -> Step
     ensures { result ≡ written_step d w answer }
 {
     match w {
-        Written::Done(e) => Step {
-            device: e,
+        Ok(device) => Step {
+            device,
             same: 0 == answer,
         },
-        Written::Refused(r) => Step {
+        Err(r) => Step {
             device: d,
             same: r.number() == answer,
         },
@@ -30,17 +31,17 @@ fn written(d: Device, w: Written, answer: u8) -> Step
 }
 
 // After a read: its number and its value are compared.
-fn read(d: Device, g: Reading, value: u8, answer: u8) -> Step
+fn read(d: Device, g: Result<Reading<Device>, Refusal>, value: u8, answer: u8) -> Step
     ensures { result ≡ read_step d g value answer }
 {
     match g {
-        Reading::Done(v, e) => Step {
-            device: e,
-            same: (0 == answer) & (v == value),
+        Ok(got) => Step {
+            device: got.after,
+            same: 0 == answer && got.value == value,
         },
-        Reading::Refused(r) => Step {
+        Err(r) => Step {
             device: d,
-            same: (r.number() == answer) & (0 == value),
+            same: r.number() == answer && 0 == value,
         },
     }
 }
@@ -53,12 +54,8 @@ pub(crate) fn stepped(d: Device, i: Item) -> Step
         Item::Read(a, v, n) => read(d, d.read(a as u16), v, n),
         Item::Vector(k, n) => written(d, d.take_vector(k), n),
         Item::Clocks(l, c) => {
-            let h = d.hold(l, Span(c as usize));
-            let e = h.device;
-            Step {
-                device: e,
-                same: true,
-            }
+            let device = d.hold(l, Span(c as usize)).after;
+            Step { device, same: true }
         }
     }
 }

@@ -9,15 +9,14 @@ use lib.ListN.{length, take, drop}
 use lib.Pow.{are_bytes}
 use lib.Seq.{take_at}
 use borrow.Author.Tests.{leb-true}
+use Rattle.std.specs.Prelude.{Ok, Err}
 use Rattle.choice.proofs.Picks.{split}
-use Rattle.trace.specs.Contents.{contents_of}
+use Rattle.trace.specs.Contents.{Check, passed, contents_of}
 use Rattle.trace.specs.Filling.{filled_of, buffer_of, is_well}
 use Rattle.trace.specs.Listing.{list_of, listing_of}
 use Rattle.trace.specs.Shrinking.{shrunk_of}
 use Rattle.trace.specs.Text.{text_of}
 use Rattle.trace.specs.declared.item.Item.{Item}
-use Rattle.trace.specs.declared.text.Check.{Check}
-use Rattle.trace.specs.declared.text.Check.TheVariants.{WellFormed, Malformed}
 use Rattle.trace.proofs.Promised.{writes, shrinks}
 use Rattle.recording.specs.Calls.{filled_number, filled_length, trace_write_answer, trace_shrink_answer}
 use Rattle.recording.specs.Meaning.{written_in, WritesBack, ShrinksTo}
@@ -51,9 +50,9 @@ writes-back list buffer b e =
       back = ap (λ (x : List ℕ). list_of (contents_of x).items) t ∙ w.back;
     }
 
-well-by : (c : Check) → is_well c ≡ true → c ≡ WellFormed
-well-by WellFormed e = refl
-well-by (Malformed line) e = absurd (let z : ◌≡◌ {A = ℕ} 0 1 = cc in omega arith)
+well-by : (c : Check) → is_well c ≡ true → c ≡ passed
+well-by (Ok done) e = refl
+well-by (Err bad) e = absurd (let z : ◌≡◌ {A = ℕ} 0 1 = cc in omega arith)
 
 pub shrinks-to : (text buffer : List ℕ) → trace_shrink_answer text buffer ≡ 0 → ShrinksTo text buffer
 shrinks-to text buffer e =

@@ -4,9 +4,10 @@ use mathlib.Core.Path.{◌≡◌, refl}
 use lib.ListN.{replicate}
 use Rattle.decimal.specs.Digits.{digits_of, digits_from}
 use Rattle.decimal.specs.Field.{rest_of, field_from}
-use Rattle.trace.specs.Contents.{contents_by, contents_at, starts_with}
+use Rattle.trace.specs.Contents.{items_in, check_in, starts_with}
 use Rattle.trace.specs.Filling.{filled_of}
-use Rattle.trace.specs.Line.{line_at, item_at, triple_at, pair_at}
+use Rattle.trace.specs.Line.{line_at, fields_at, item_at, triple_at, pair_at}
+use Rattle.trace.specs.Lines.{lines_from, lines_by}
 use Rattle.trace.specs.Listing.{clocks_from, call_from, entry_at, listing_by, listing_at}
 use Rattle.trace.specs.Shrinking.{merged_of, parts_of, cut_of, shrunk_of}
 use Rattle.trace.proofs.Examples.{example, list}
@@ -22,7 +23,7 @@ pub example-written : WritesBack list (replicate 40 0)
 example-written = writes-back list (replicate 40 0) refl written
 
 shrunk : trace_shrink_answer example (replicate 38 0) ≡ 0
-unfolding filled_of contents_at contents_by starts_with line_at item_at triple_at pair_at rest_of field_from shrunk_of cut_of merged_of parts_of digits_of digits_from
+unfolding filled_of items_in check_in lines_from lines_by starts_with line_at fields_at item_at triple_at pair_at rest_of field_from shrunk_of cut_of merged_of parts_of digits_of digits_from
 shrunk = refl
 
 pub example-shrunk : ShrinksTo example (replicate 38 0)

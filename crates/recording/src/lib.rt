@@ -3,6 +3,5 @@
 #![tactic(auto)]
 
 mod calls;
-mod reply;
 
 pub use calls::{warpmagpie_trace_shrink, warpmagpie_trace_write};

@@ -7,9 +7,7 @@ use borrow.Author.Tests.{eq-eqb, ne_eqb}
 use Rattle.answer.specs.Number.{number_of}
 use Rattle.answer.specs.declared.Refusal.{Refusal}
 use Rattle.answer.specs.declared.Refusal.TheVariants.{Record}
-use Rattle.playback.specs.Replay.{replay_of, outcome_number, outcome_line}
-use Rattle.playback.specs.declared.replaying.Outcome.{Outcome}
-use Rattle.playback.specs.declared.replaying.Outcome.TheVariants.{Done, Refused}
+use Rattle.playback.specs.Replay.{Outcome, finished, stopped_at, replay_of, outcome_number, outcome_line}
 use Rattle.playback.specs.declared.replaying.Replayed.{Replayed}
 use Rattle.record.specs.Codec.{record_of, stored_over}
 use Rattle.record.specs.Layout.{record_length}
@@ -29,8 +27,8 @@ module _ (s text : List ℕ) {r : Replayed} {after : List ℕ} (h : length s ≡
       rw (eq-eqb (length s) record_length h, same)
       (refl, (refl, q ∙ stored r.device s h ∙ ap (λ (x : Replayed). record_of x.device) p))
 
-  pub replay-done : r.outcome ≡ Done → IsReplay s text 0 0 after
+  pub replay-done : r.outcome ≡ finished → IsReplay s text 0 0 after
   replay-done e = ended e
 
-  pub replay-stopped : {why : Refusal} {line n : ℕ} → r.outcome ≡ Refused why line → n ≡ number_of why → IsReplay s text n line after
+  pub replay-stopped : {why : Refusal} {line n : ℕ} → r.outcome ≡ stopped_at why line → n ≡ number_of why → IsReplay s text n line after
   replay-stopped e f = let i = ended e in (f ∙ i.0, i.1)

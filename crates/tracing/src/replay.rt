@@ -3,7 +3,6 @@ ghost use Rattle.std.specs.Prelude.{◌≡◌};
 ghost use Rattle.tracing.specs.Replay.{replay_answer, replay_line, record_after_replay};
 
 use answer::Refusal;
-use playback::Outcome;
 
 pub fn warpmagpie_replay(image: &mut [u8], text: &[u8], line: &mut usize) -> u8
     ensures value { result ≡ replay_answer image.old text.now }
@@ -11,22 +10,20 @@ pub fn warpmagpie_replay(image: &mut [u8], text: &[u8], line: &mut usize) -> u8
     ensures image_after { image.new ≡ record_after_replay image.old text.now }
 {
     if image.len() != record::LENGTH {
-        let r = Refusal::Record;
         *line = 0;
-        return r.number();
+        return Refusal::Record.number();
     }
     let got = playback::replay(text);
-    let d = got.device;
-    let outcome = got.outcome;
-    record::store(d, image);
-    match outcome {
-        Outcome::Done => {
+    record::store(got.device, image);
+    // Not by `told`: a refusal comes with its line, and `told` puts one and the same value for each.
+    match got.outcome {
+        Ok(()) => {
             *line = 0;
             0
         }
-        Outcome::Refused(r, at) => {
-            *line = at;
-            r.number()
+        Err(stopped) => {
+            *line = stopped.line;
+            stopped.why.number()
         }
     }
 }
