@@ -2,105 +2,65 @@
 use Prim.Native.Nat.{ℕ, ◌<◌}
 use mathlib.Core.Bool.{Bool, true, false}
 use mathlib.Core.List.{List, [], ◌∷◌}
-use mathlib.Core.Path.{◌≡◌, refl, sym, ap, ap₂, subst, ◌∙◌}
-use native.Mathlib.Omega.{arith}
-use lib.ListN.{length, get_or, set}
+use mathlib.Core.Path.{◌≡◌, refl, sym, ap, ◌∙◌}
+use lib.ListN.{length}
 use borrow.Author.Tests.{eq-eqb, ne_eqb, lt-ltb}
+use Rattle.std.proofs.Common.{Err, Ok, Result, IsErrAnd, MatchResult}
 use Rattle.choice.specs.Pick.{pick}
-use Rattle.answer.specs.Number.{number_of}
-use Rattle.device.specs.Outcome.{answer_of, read_answer_of, value_of}
-use Rattle.device.specs.Register.{write_of, read_of, vector_of}
-use Rattle.device.specs.Run.{ran_of, outputs_of, are_levels, run_of, shown}
-use Rattle.device.specs.Unit.{reset_device, clock_of, output_of, clocked_of}
-use Rattle.device.proofs.CountingLaws.{counted-clock, counted-output}
+use Rattle.answer.specs.Number.{number_of, number_in, value_or}
+use Rattle.answer.specs.declared.Refusal.{Refusal}
 use Rattle.answer.specs.declared.Refusal.TheVariants.{Record}
-use Rattle.device.specs.declared.outcome.Written.{Written}
-use Rattle.device.specs.declared.outcome.Written.TheVariants.{Done}
-use Rattle.device.specs.declared.outcome.Reading.{Reading}
+use Rattle.answer.specs.declared.Reading.{Reading}
+use Rattle.device.specs.Outcome.{answer_of}
+use Rattle.device.specs.Register.{write_of, read_of, vector_of}
+use Rattle.device.specs.Run.{ran_of, outputs_of, are_levels, shown}
+use Rattle.device.specs.Unit.{reset_device, clock_of, output_of, clocked_of}
 use Rattle.device.specs.declared.unit.Device.{Device}
-use Rattle.device.specs.declared.unit.Clocked.{Clocked}
+use Rattle.device.proofs.CountingLaws.{counted-clock, counted-output}
 use Rattle.record.specs.Layout.{record_length}
 use Rattle.record.specs.Lift.{device_at}
 use Rattle.record.specs.Codec.{decode_of, record_of, stored_over}
-use Rattle.record.specs.declared.codec.Decoded.{Decoded}
-use Rattle.record.specs.declared.codec.Decoded.TheVariants.{Accepted, Refused as NoDevice}
-use Rattle.record.specs.Kept.{kept, kept_by_read, put_back, put_back_read}
+use Rattle.record.specs.Kept.{kept, put_back, put_back_read}
 use Rattle.record.specs.InPlace.{stepped_of, stepped_over}
 use Rattle.record.specs.Accepts.{is_record}
 use Rattle.record.specs.Report.{report_of}
 use Rattle.record.specs.declared.in_place.Stepped.{Stepped}
-use Rattle.record.specs.declared.in_place.Stepped.TheVariants.{Refused as Uncounted, Counted, Due}
-use Rattle.record.specs.declared.report.Reported.{Reported}
-use Rattle.record.specs.declared.report.Reported.TheVariants.{Refused as NoReport, Value}
+use Rattle.record.specs.declared.in_place.Stepped.TheVariants.{Counted, Due}
 use Rattle.record.proofs.Round.{decode-length, stored}
-use Rattle.record.proofs.KeptLaws.{put-back, put-back-read}
+use Rattle.record.proofs.KeptLaws.{came, kept-as, kept-as-read}
 use Rattle.record.proofs.StepLaws.{counted-from, due-from, refused-from}
-use Rattle.warpmagpie.specs.Calls.{reset_on, reset_answer, record_after_reset, write_on, write_answer, record_after_write, read_on, read_answer, read_value, record_after_read, vector_on, vector_answer, record_after_vector, run_on, outputs_on, run_answer, record_after_run, outputs_after_run, query_answer_on, query_value_on, told_number, told_value}
+use Rattle.warpmagpie.specs.Calls.{reset_on, reset_answer, record_after_reset, write_on, record_after_write, read_on, record_after_read, vector_on, record_after_vector, run_on, outputs_on, clock_on, output_in, run_answer, record_after_run, outputs_after_run, query_answer_on, query_value_on}
 
--- what a run answers and leaves
-abbrev pub RunIs : List ℕ → List ℕ → List ℕ → ℕ → List ℕ → List ℕ → Type 0
-RunIs s ls os n s' os' = (n ≡ run_answer s ls os) × ((s' ≡ record_after_run s ls os) × (os' ≡ outputs_after_run s ls os))
+module _ (s : List ℕ) where
+  module _ {t : Result Device Refusal} (p : t ≡ decode_of s) where
+    pub written : (a v : ℕ) {w : Result Device Refusal} {P : Device → Type 0} → MatchResult t P (λ r. w ≡ Err r) → ((d : Device) → P d → w ≡ write_of d a v)
+        → (w ≡ write_on (decode_of s) a v) × (put_back w s ≡ record_after_write s a v)
+    unfolding write_on
+    written a v m says =
+        let e = came (λ x. write_on x a v) (λ r. refl) t p m says in
+        (e, ap (λ x. put_back x s) e ∙ kept-as s (λ x. write_on x a v) (λ r. refl))
 
--- the record that a call took is that of d
-module _ (s : List ℕ) {t : Decoded} {d : Device} (p : t ≡ decode_of s) (q : t ≡ Accepted d) where
-  abbrev accepted : decode_of s ≡ Accepted d
-  accepted = sym p ∙ q
+    pub read : {d : Device} → t ≡ Ok d → (a : ℕ) {g : Result (Reading Device) Refusal} → g ≡ read_of d a
+        → (g ≡ read_on (decode_of s) a) × (put_back_read g s ≡ record_after_read s a)
+    unfolding read_on
+    read {d} q a {g} e =
+        let k : g ≡ read_on (decode_of s) a = e ∙ ap (λ x. read_on x a) (sym q ∙ p) in
+        (k, ap (λ x. put_back_read x s) k ∙ kept-as-read s (λ x. read_on x a) (λ r. refl))
 
-  pub has-length : length s ≡ record_length
-  has-length = decode-length s d accepted
+    pub not-read : {r : Refusal} → t ≡ Err r → (a : ℕ) → ◌≡◌ {A = Result (Reading Device) Refusal} (Err r) (read_on (decode_of s) a)
+    unfolding read_on
+    not-read q a = ap (λ x. read_on x a) (sym q ∙ p)
 
-  -- a call that came to w, which was put back
-  settle_is : {w x : Written} {n : ℕ} {s' : List ℕ} → w ≡ x → n ≡ answer_of w → s' ≡ put_back w s → (n ≡ answer_of x) × (s' ≡ kept s x)
-  settle_is {w} e hn hs = (hn ∙ ap answer_of e, hs ∙ put-back s w has-length ∙ ap (kept s) e)
+    pub taken : (i : ℕ) {w : Result Device Refusal} {P : Device → Type 0} → MatchResult t P (λ r. w ≡ Err r) → ((d : Device) → P d → w ≡ vector_of d i)
+        → (w ≡ vector_on (decode_of s) i) × (put_back w s ≡ record_after_vector s i)
+    unfolding vector_on
+    taken i m says =
+        let e = came (λ x. vector_on x i) (λ r. refl) t p m says in
+        (e, ap (λ x. put_back x s) e ∙ kept-as s (λ x. vector_on x i) (λ r. refl))
 
-  pub write_done : (a v : ℕ) {n : ℕ} {s' : List ℕ} {w : Written} → w ≡ write_of d a v → n ≡ answer_of w → s' ≡ put_back w s
-      → (n ≡ write_answer s a v) × (s' ≡ record_after_write s a v)
-  unfolding write_on
-  write_done a v hw = settle_is (hw ∙ sym (ap (λ (x : Decoded). write_on x a v) accepted))
-
-  pub vector-done : (i : ℕ) {n : ℕ} {s' : List ℕ} {w : Written} → w ≡ vector_of d i → n ≡ answer_of w → s' ≡ put_back w s
-      → (n ≡ vector_answer s i) × (s' ≡ record_after_vector s i)
-  unfolding vector_on
-  vector-done i hw = settle_is (hw ∙ sym (ap (λ (x : Decoded). vector_on x i) accepted))
-
-  pub run-done : (ls os : List ℕ) {n : ℕ} {s' os' : List ℕ} {w : Written} → w ≡ run_of d ls os → n ≡ answer_of w → s' ≡ put_back w s
-      → os' ≡ shown os (outputs_of d ls) (run_of d ls os) → RunIs s ls os n s' os'
-  unfolding run_on outputs_on
-  run-done ls os hw hn hs ho =
-      let on = sym (ap (λ (x : Decoded). run_on x ls os) accepted) in
-      let done = settle_is (hw ∙ on) hn hs in
-      (done.0, (done.1, ho ∙ ap₂ (shown os) (sym (ap (λ (x : Decoded). outputs_on x ls) accepted)) on))
-
-  read-on : (a : ℕ) → read_of d a ≡ read_on (decode_of s) a
-  unfolding read_on
-  read-on a = sym (ap (λ (x : Decoded). read_on x a) accepted)
-
-  pub read_done : (a : ℕ) {n v : ℕ} {s' : List ℕ} {g : Reading} → g ≡ read_of d a → n ≡ read_answer_of g → v ≡ value_of g → s' ≡ put_back_read g s
-      → (n ≡ read_answer s a) × ((v ≡ read_value s a) × (s' ≡ record_after_read s a))
-  read_done a {n} {v} {s'} {g} hg hn hv hs =
-      let e : g ≡ read_on (decode_of s) a = hg ∙ read-on a in
-      (hn ∙ ap read_answer_of e, (hv ∙ ap value_of e, hs ∙ put-back-read s g has-length ∙ ap (kept_by_read s) e))
-
--- the record that a call took is refused
-module _ (s : List ℕ) {t : Decoded} (p : t ≡ decode_of s) (q : t ≡ NoDevice) {n : ℕ} (r : n ≡ number_of Record) where
-  abbrev none : decode_of s ≡ NoDevice
-  none = sym p ∙ q
-
-  pub write-refused : (a v : ℕ) → (n ≡ write_answer s a v) × (s ≡ record_after_write s a v)
-  unfolding write_on
-  write-refused a v = rw none (r, refl)
-
-  pub vector-refused : (i : ℕ) → (n ≡ vector_answer s i) × (s ≡ record_after_vector s i)
-  unfolding vector_on
-  vector-refused i = rw none (r, refl)
-
-  pub read-refused : (a : ℕ) → (n ≡ read_answer s a) × ((0 ≡ read_value s a) × (s ≡ record_after_read s a))
-  unfolding read_on
-  read-refused a = rw none (r, (refl, refl))
-
-  pub run-refused : (ls os : List ℕ) → RunIs s ls os n s os
-  unfolding run_on outputs_on
-  run-refused ls os = rw none (r, (refl, refl))
+  pub run_kept : (ls os : List ℕ) → put_back (run_on (decode_of s) ls os) s ≡ record_after_run s ls os
+  unfolding run_on
+  run_kept ls os = kept-as s (λ x. run_on x ls os) (λ r. refl)
 
 -- k is what a reset compares the length with
 pub reset-refused : (s : List ℕ) {k n : ℕ} → (length s ≡ k → ⊥) → k ≡ record_length → n ≡ number_of Record → (n ≡ reset_answer s) × (s ≡ record_after_reset s)
@@ -112,70 +72,59 @@ pub reset-done : (s : List ℕ) {s' : List ℕ} {d : Device} {k : ℕ} → lengt
 unfolding reset_on
 reset-done s {s'} {d} h e hd hs = rw (eq-eqb (length s) record_length (h ∙ e)) (refl, hs ∙ stored d s (h ∙ e) ∙ ap record_of hd)
 
--- a run of one clock l, whose level is one and whose output slice fits
-module _ (s : List ℕ) (l : ℕ) (os : List ℕ) (low : l < 32) (fits : length os ≡ 1) where
-  one-done : (d : Device) → run_of d (l ∷ []) os ≡ Done (clock_of d l)
-  unfolding are_levels ran_of
-  one-done d = rw (eq-eqb (length os) 1 fits, lt-ltb l 32 low)
+-- what one clock leaves of a record, and what it shows
+abbrev pub ClockIs : List ℕ → ℕ → Result ℕ Refusal → List ℕ → Type 0
+ClockIs s l r s' = (r ≡ output_in (clock_on (decode_of s) l) l) × (s' ≡ kept s (clock_on (decode_of s) l))
 
-  -- what it leaves: the record of the device after the clock, and its output byte in the one place
-  one-is : (d : Device) {s' os' : List ℕ} → decode_of s ≡ Accepted d → s' ≡ record_of (clock_of d l) → os' ≡ output_of (clock_of d l) l ∷ []
-      → RunIs s (l ∷ []) os 0 s' os'
-  unfolding run_on outputs_on outputs_of
-  one-is d e hs ho = rw (e, one-done d) (refl, (hs, ho))
+-- by what `count` came to
+module _ (s : List ℕ) (l : ℕ) {r : Result Stepped Refusal} (p : r ≡ stepped_of s l) {s' : List ℕ} (hs : s' ≡ stepped_over s l) where
+  passed : (d : Device) {o : ℕ} {s'' : List ℕ} → decode_of s ≡ Ok d → o ≡ output_of (clock_of d l) l → s'' ≡ record_of (clock_of d l) → ClockIs s l (Ok o) s''
+  unfolding clock_on
+  passed d e ho hs = rw e (ap Ok ho, hs)
 
-  -- the first byte of a slice of one
-  only : (o : ℕ) → set os 0 o ≡ o ∷ []
-  only o = one os fits o
+  pub counted : {o : ℕ} → r ≡ Ok (Counted o) → ClockIs s l (Ok o) s'
+  counted {o} q =
+      let c = counted-from s l p q in
+      let e = sym (counted-clock (device_at s) l c.counting) in
+      passed (device_at s) c.decoded (c.output ∙ sym (counted-output (device_at s) l) ∙ ap (λ d. output_of d l) e) (hs ∙ c.after ∙ ap record_of e)
+
+  pub due : {d : Device} {c : Reading Device} {s'' : List ℕ} → r ≡ Ok (Due d) → c ≡ clocked_of d l → s'' ≡ stored_over c.after s' → ClockIs s l (Ok c.value) s''
+  due {d} {c} q hc hr =
+      let f = due-from s l p q in
+      let n : length s' ≡ record_length = ap length (hs ∙ f.1) ∙ decode-length s d f.0 in
+      passed d f.0 (ap (λ (x : Reading Device). x.value) hc) (hr ∙ stored c.after s' n ∙ ap (λ (x : Reading Device). record_of x.after) hc)
+
+  pub none : {why : Refusal} {x : Result ℕ Refusal} → r ≡ Err why → IsErrAnd x (λ e. e ≡ why) → ClockIs s l x s'
+  unfolding clock_on
+  none {why} {x} q e = let f = refused-from s l p q in rw f.0 (error x e, hs ∙ f.1)
     where
-      one : (xs : List ℕ) → length xs ≡ 1 → (x : ℕ) → set xs 0 x ≡ x ∷ []
-      one [] h x = absurd (omega (arith, h))
-      one (y ∷ []) h x = refl
-      one (y ∷ (z ∷ ys)) h x = absurd (omega (arith, h))
+      error : (x : Result ℕ Refusal) → IsErrAnd x (λ e. e ≡ why) → x ≡ Err why
+      error (Ok o) e = absurd e
+      error (Err r) e = ap Err e
 
-  -- by what `count` came to
-  module _ {r : Stepped} (p : r ≡ stepped_of s l) {s' : List ℕ} (hs : s' ≡ stepped_over s l) where
-    pub one-counted : {o : ℕ} {os' : List ℕ} → r ≡ Counted o → os' ≡ set os 0 o → RunIs s (l ∷ []) os 0 s' os'
-    one-counted {o} q ho =
-        let c = counted-from s l p q in
-        let e = counted-clock (device_at s) l c.counting in
-        one-is (device_at s) c.decoded (hs ∙ c.after ∙ ap record_of (sym e))
-        (ho ∙ only o ∙ ap (λ (n : ℕ). n ∷ []) (c.output ∙ sym (counted-output (device_at s) l) ∙ ap (λ (d : Device). output_of d l) (sym e)))
-
-    pub one-due : {d : Device} {c : Clocked} {s'' os' : List ℕ} → r ≡ Due d → c ≡ clocked_of d l → s'' ≡ stored_over c.device s' → os' ≡ set os 0 c.output
-        → RunIs s (l ∷ []) os 0 s'' os'
-    one-due {d} {c} q hc hr ho =
-        let f = due-from s l p q in
-        let e : s' ≡ s = hs ∙ f.1 in
-        let n : length s' ≡ record_length = ap length e ∙ decode-length s d f.0 in
-        one-is d f.0 (hr ∙ stored c.device s' n ∙ ap (λ (x : Clocked). record_of x.device) hc)
-        (ho ∙ only c.output ∙ ap (λ (x : Clocked). x.output ∷ []) hc)
-
-    pub one-refused : {n : ℕ} → r ≡ Uncounted → n ≡ number_of Record → RunIs s (l ∷ []) os n s' os
-    unfolding run_on outputs_on
-    one-refused q hn = let f = refused-from s l p q in rw f.0 (hn, (hs ∙ f.1, refl))
-
--- a slice of one level
-pub single : (ls : List ℕ) → length ls ≡ 1 → get_or ls 0 0 ∷ [] ≡ ls
-single [] h = absurd (omega (arith, h))
-single (l ∷ []) h = refl
-single (l ∷ (m ∷ ls)) h = absurd (omega (arith, h))
-
-pub run-single : (s ls os : List ℕ) {n : ℕ} {s' os' : List ℕ} → length ls ≡ 1 → RunIs s (get_or ls 0 0 ∷ []) os n s' os' → RunIs s ls os n s' os'
-run-single s ls os {n} {s'} {os'} h q = subst (λ (x : List ℕ). RunIs s x os n s' os') (single ls h) q
+-- a run of one clock, whose level is one and whose output slice fits
+pub one-clock : (s : List ℕ) (l o : ℕ) → l < 32 → {r : Result ℕ Refusal} {n o' : ℕ} {s' : List ℕ} → ClockIs s l r s' → n ≡ number_in r → o' ≡ value_or o r
+    → (n ≡ run_answer s (l ∷ []) (o ∷ [])) × ((s' ≡ record_after_run s (l ∷ []) (o ∷ [])) × (o' ∷ [] ≡ outputs_after_run s (l ∷ []) (o ∷ [])))
+unfolding run_on outputs_on clock_on are_levels ran_of outputs_of
+one-clock s l o low {r} {n} {o'} {s'} c hn ho = by (decode_of s) c.0 c.1
+  where
+    by : (t : Result Device Refusal) → r ≡ output_in (clock_on t l) l → s' ≡ kept s (clock_on t l)
+        → (n ≡ answer_of (run_on t (l ∷ []) (o ∷ []))) × ((s' ≡ kept s (run_on t (l ∷ []) (o ∷ []))) × (o' ∷ [] ≡ shown (o ∷ []) (outputs_on t (l ∷ [])) (run_on t (l ∷ []) (o ∷ []))))
+    by (Ok d) e hs = rw (lt-ltb l 32 low) (hn ∙ ap number_in e, (hs, ap (λ x. x ∷ []) (ho ∙ ap (value_or o) e)))
+    by (Err why) e hs = (hn ∙ ap number_in e, (hs, ap (λ x. x ∷ []) (ho ∙ ap (value_or o) e)))
 
 -- a query: record and report are tested alike
 pub told : (asked : Device → ℕ) (s : List ℕ)
-    → (told_number (report_of asked s) ≡ query_answer_on (decode_of s)) × (told_value (report_of asked s) ≡ query_value_on asked (decode_of s))
+    → (number_in (report_of asked s) ≡ query_answer_on (decode_of s)) × (value_or 0 (report_of asked s) ≡ query_value_on asked (decode_of s))
 unfolding report_of decode_of query_answer_on query_value_on
 told asked s = by (is_record s)
   where
     by : (t : Bool)
-        → (told_number (pick t (Value (asked (device_at s))) NoReport) ≡ query_answer_on (pick t (Accepted (device_at s)) NoDevice))
-        × (told_value (pick t (Value (asked (device_at s))) NoReport) ≡ query_value_on asked (pick t (Accepted (device_at s)) NoDevice))
+        → (number_in (pick t (Ok (asked (device_at s))) (Err Record)) ≡ query_answer_on (pick t (Ok (device_at s)) (Err Record)))
+        × (value_or 0 (pick t (Ok (asked (device_at s))) (Err Record)) ≡ query_value_on asked (pick t (Ok (device_at s)) (Err Record)))
     by true = (refl, refl)
     by false = (refl, refl)
 
-pub told_is : (asked : Device → ℕ) (s : List ℕ) {r : Reported} {n v : ℕ} → r ≡ report_of asked s → n ≡ told_number r → v ≡ told_value r
+pub told_is : (asked : Device → ℕ) (s : List ℕ) {r : Result ℕ Refusal} {n v : ℕ} → r ≡ report_of asked s → n ≡ number_in r → v ≡ value_or 0 r
     → (n ≡ query_answer_on (decode_of s)) × (v ≡ query_value_on asked (decode_of s))
-told_is asked s p hn hv = (hn ∙ ap told_number p ∙ (told asked s).0, hv ∙ ap told_value p ∙ (told asked s).1)
+told_is asked s p hn hv = let t = told asked s in (hn ∙ ap number_in p ∙ t.0, hv ∙ ap (value_or 0) p ∙ t.1)

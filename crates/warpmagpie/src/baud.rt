@@ -2,21 +2,21 @@
 ghost use Rattle.std.specs.Prelude.{◌≡◌};
 ghost use Rattle.warpmagpie.specs.Baud.{plan_answer, plan_ubrr, plan_tenths, check_answer, check_accepted};
 
-use planner::{Checked, Planned};
+use answer::told;
 
 pub fn warpmagpie_plan_baud(clock: u32, rate: u32, u2x: u8, ubrr: &mut u16, tenths: &mut i32) -> u8
     ensures value { result ≡ plan_answer clock rate u2x }
     ensures ubrr_after { ubrr.new ≡ plan_ubrr clock rate u2x }
     ensures tenths_after { tenths.new ≡ plan_tenths clock rate u2x }
 {
-    let got = planner::plan(clock, rate, u2x);
-    match got {
-        Planned::Done(u, e) => {
-            *ubrr = u;
-            *tenths = e;
+    // Not by `told`, which has one place to put a value in: a plan goes into two.
+    match planner::plan(clock, rate, u2x) {
+        Ok(plan) => {
+            *ubrr = plan.ubrr;
+            *tenths = plan.tenths;
             0
         }
-        Planned::Refused(r) => {
+        Err(r) => {
             *ubrr = 0;
             *tenths = 0;
             r.number()
@@ -28,15 +28,6 @@ pub fn warpmagpie_check_baud(clock: u32, rate: u32, u2x: u8, ubrr: u32, accepted
     ensures value { result ≡ check_answer clock rate u2x ubrr }
     ensures accepted_after { accepted.new ≡ check_accepted clock rate u2x ubrr }
 {
-    let got = planner::check(clock, rate, u2x, ubrr);
-    match got {
-        Checked::Told(yes) => {
-            *accepted = choice::digit(yes);
-            0
-        }
-        Checked::Refused(r) => {
-            *accepted = 0;
-            r.number()
-        }
-    }
+    let checked = planner::check(clock, rate, u2x, ubrr);
+    told(checked.map(u8::from), 0, accepted)
 }

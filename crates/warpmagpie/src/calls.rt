@@ -1,22 +1,15 @@
-ghost use Rattle.std.specs.Prelude.{[], ◌∷◌, ◌≡◌, ◌<◌, length};
-ghost use Rattle.answer.specs.Number.{number_of};
-ghost use Rattle.answer.specs.declared.Refusal.TheVariants.{Record};
+ghost use Rattle.std.specs.Prelude.{[], ◌∷◌, ◌≡◌, ◌<◌};
+ghost use Rattle.record.specs.Codec.{decode_of};
+ghost use Rattle.record.specs.Kept.{kept};
 ghost use Rattle.warpmagpie.specs.Calls.{reset_answer, record_after_reset, write_answer, record_after_write};
 ghost use Rattle.warpmagpie.specs.Calls.{read_answer, read_value, record_after_read, vector_answer};
 ghost use Rattle.warpmagpie.specs.Calls.{record_after_vector, run_answer, record_after_run, outputs_after_run};
-ghost use Rattle.warpmagpie.specs.Calls.{told_number, told_value, requests_answer, requests_value};
+ghost use Rattle.warpmagpie.specs.Calls.{run_on, clock_on, output_in, requests_answer, requests_value};
 ghost use Rattle.warpmagpie.specs.Calls.{split_votes_answer, split_votes_value};
 
-use answer::Refusal;
+use answer::{Refusal, told};
 use device::Device;
-use record::{Decoded, Reported, Stepped};
-
-fn no_record() -> u8
-    ensures { result ≡ number_of Record }
-{
-    let r = Refusal::Record;
-    r.number()
-}
+use record::{Stepped, decode, settle, settle_read, store};
 
 // Resets the device: whatever bytes the record had, it is then the record of a device after reset.
 pub fn warpmagpie_reset(image: &mut [u8]) -> u8
@@ -24,9 +17,9 @@ pub fn warpmagpie_reset(image: &mut [u8]) -> u8
     ensures image_after { image.new ≡ record_after_reset image.old }
 {
     if image.len() != record::LENGTH {
-        return no_record();
+        return Refusal::Record.number();
     }
-    record::store(Device::reset(), image);
+    store(Device::reset(), image);
     0
 }
 
@@ -34,11 +27,8 @@ pub fn warpmagpie_write(image: &mut [u8], address: u16, value: u8) -> u8
     ensures value { result ≡ write_answer image.old address value }
     ensures image_after { image.new ≡ record_after_write image.old address value }
 {
-    let got = record::decode(image);
-    match got {
-        Decoded::Accepted(d) => record::settle(d.write(address, value), image),
-        Decoded::Refused => no_record(),
-    }
+    let written = decode(image).and_then(|d| d.write(address, value));
+    settle(written, image)
 }
 
 pub fn warpmagpie_read(image: &mut [u8], address: u16, value: &mut u8) -> u8
@@ -46,12 +36,12 @@ pub fn warpmagpie_read(image: &mut [u8], address: u16, value: &mut u8) -> u8
     ensures value_after { value.new ≡ read_value image.old address }
     ensures image_after { image.new ≡ record_after_read image.old address }
 {
-    let got = record::decode(image);
-    match got {
-        Decoded::Accepted(d) => record::settle_read(d.read(address), image, value),
-        Decoded::Refused => {
+    // Neither by `and_then` nor by `?`, through which a read's value and device are copied once more: a tenth slower.
+    match decode(image) {
+        Ok(d) => settle_read(d.read(address), image, value),
+        Err(r) => {
             *value = 0;
-            no_record()
+            r.number()
         }
     }
 }
@@ -60,49 +50,50 @@ pub fn warpmagpie_take_vector(image: &mut [u8], vector: u8) -> u8
     ensures value { result ≡ vector_answer image.old vector }
     ensures image_after { image.new ≡ record_after_vector image.old vector }
 {
-    let got = record::decode(image);
-    match got {
-        Decoded::Accepted(d) => record::settle(d.take_vector(vector), image),
-        Decoded::Refused => no_record(),
-    }
+    let taken = decode(image).and_then(|d| d.take_vector(vector));
+    settle(taken, image)
 }
 
-// A run of any length.
+// The device after a run of any length.
+#[tactic(auto, unfolding(crate::specs::Calls::run_on, crate::specs::Calls::outputs_on))]
+fn ran(image: &[u8], levels: &[u8], outputs: &mut [u8]) -> Result<Device, Refusal>
+    ensures value { result ≡ run_on (decode_of image.now) levels.now outputs.old }
+    ensures outputs_after { outputs.new ≡ outputs_after_run image.now levels.now outputs.old }
+{
+    decode(image)?.run(levels, outputs)
+}
+
+#[tactic(auto, using(crate::proofs::Cases::run_kept))]
 fn many_clocks(image: &mut [u8], levels: &[u8], outputs: &mut [u8]) -> u8
     ensures value { result ≡ run_answer image.old levels.now outputs.old }
     ensures image_after { image.new ≡ record_after_run image.old levels.now outputs.old }
     ensures outputs_after { outputs.new ≡ outputs_after_run image.old levels.now outputs.old }
 {
-    let got = record::decode(image);
-    match got {
-        Decoded::Accepted(d) => record::settle(d.run(levels, outputs), image),
-        Decoded::Refused => no_record(),
+    settle(ran(image, levels, outputs), image)
+}
+
+// One clock, and its output byte. Most clocks only count, and are made in place.
+fn clocked(image: &mut [u8], level: u8) -> Result<u8, Refusal>
+    ensures value { result ≡ output_in (clock_on (decode_of image.old) level) level }
+    ensures image_after { image.new ≡ kept image.old (clock_on (decode_of image.old) level) }
+{
+    match record::count(image, level)? {
+        Stepped::Counted(output) => Ok(output),
+        Stepped::Due(d) => {
+            let next = d.clock(level);
+            store(next.after, image);
+            Ok(next.value)
+        }
     }
 }
 
-// A run of one clock. Most only count, and are made in place.
-fn one_clock(image: &mut [u8], level: u8, outputs: &mut [u8]) -> u8
-    requires level_bound { level < 32 }
-    requires outputs_len { length outputs.old ≡ 1 }
-    ensures value { result ≡ run_answer image.old (level ∷ []) outputs.old }
-    ensures image_after { image.new ≡ record_after_run image.old (level ∷ []) outputs.old }
-    ensures outputs_after { outputs.new ≡ outputs_after_run image.old (level ∷ []) outputs.old }
+fn one_clock(image: &mut [u8], level: u8, output: &mut u8) -> u8
+    requires { level < 32 }
+    ensures value { result ≡ run_answer image.old (level ∷ []) (output.old ∷ []) }
+    ensures image_after { image.new ≡ record_after_run image.old (level ∷ []) (output.old ∷ []) }
+    ensures output_after { output.new ∷ [] ≡ outputs_after_run image.old (level ∷ []) (output.old ∷ []) }
 {
-    let got = record::count(image, level);
-    match got {
-        Stepped::Counted(output) => {
-            outputs[0] = output;
-            0
-        }
-        Stepped::Due(d) => {
-            let c = d.clock(level);
-            let next = c.device;
-            record::store(next, image);
-            outputs[0] = c.output;
-            0
-        }
-        Stepped::Refused => no_record(),
-    }
+    told(clocked(image, level), *output, output)
 }
 
 pub fn warpmagpie_run(image: &mut [u8], levels: &[u8], outputs: &mut [u8]) -> u8
@@ -110,30 +101,9 @@ pub fn warpmagpie_run(image: &mut [u8], levels: &[u8], outputs: &mut [u8]) -> u8
     ensures image_after { image.new ≡ record_after_run image.old levels.now outputs.old }
     ensures outputs_after { outputs.new ≡ outputs_after_run image.old levels.now outputs.old }
 {
-    if levels.len() == 1 {
-        if outputs.len() == 1 {
-            if levels[0] < 32 {
-                return one_clock(image, levels[0], outputs);
-            }
-        }
-    }
-    many_clocks(image, levels, outputs)
-}
-
-// A query, by what the record's bytes came to.
-fn tell(got: Reported, told: &mut u8) -> u8
-    ensures value { result ≡ told_number got }
-    ensures told_after { told.new ≡ told_value got }
-{
-    match got {
-        Reported::Value(value) => {
-            *told = value;
-            0
-        }
-        Reported::Refused => {
-            *told = 0;
-            no_record()
-        }
+    match (levels, &mut *outputs) {
+        ([level], [output]) if *level < 32 => one_clock(image, *level, output),
+        _ => many_clocks(image, levels, outputs),
     }
 }
 
@@ -141,12 +111,12 @@ pub fn warpmagpie_requests(image: &[u8], requests: &mut u8) -> u8
     ensures value { result ≡ requests_answer image.now }
     ensures requests_after { requests.new ≡ requests_value image.now }
 {
-    tell(record::requests(image), requests)
+    told(record::requests(image), 0, requests)
 }
 
 pub fn warpmagpie_split_votes(image: &[u8], count: &mut u8) -> u8
     ensures value { result ≡ split_votes_answer image.now }
     ensures count_after { count.new ≡ split_votes_value image.now }
 {
-    tell(record::split_votes(image), count)
+    told(record::split_votes(image), 0, count)
 }

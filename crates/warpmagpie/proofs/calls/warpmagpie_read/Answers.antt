@@ -1,17 +1,24 @@
-use Rattle.warpmagpie.proofs.Cases.{read_done, read-refused}
+use Rattle.std.proofs.Common.{ap, ◌∙◌}
+use Rattle.device.specs.Outcome.{read_answer_of, value_of}
+use Rattle.record.specs.Kept.{kept_by_read}
+use Rattle.warpmagpie.proofs.Cases.{read, not-read}
 use Rattle.warpmagpie.proofs.calls.warpmagpie_read.Goals as goal
 
-pub returns-in-Accepted : goal.returns-in-Accepted
-returns-in-Accepted c =
-    let a = c.args in
+pub returns-in-Ok : goal.returns-in-Ok
+returns-in-Ok c =
+    let h = read c.args.image.now c.decode.ensures c.in-Ok.is c.args.address c.read.ensures in
     let s = c.settle_read.ensures in
-    let h =
-    read_done a.image.now c.decode-got.ensures c.in-Accepted.is a.address c.read.ensures s.value s.value_after
-    s.image_after in
-    record { value = h.0; value_after = h.1.0; image_after = h.1.1 }
+    record {
+      value = s.value ∙ ap read_answer_of h.0;
+      value_after = s.value_after ∙ ap value_of h.0;
+      image_after = s.image_after ∙ h.1;
+    }
 
-pub returns-in-Refused : goal.returns-in-Refused
-returns-in-Refused c =
-    let a = c.args in
-    let h = read-refused a.image.now c.decode-got.ensures c.in-Refused.is c.no_record.ensures a.address in
-    record { value = h.0; value_after = h.1.0; image_after = h.1.1 }
+pub returns-in-Err : goal.returns-in-Err
+returns-in-Err c =
+    let h = not-read c.args.image.now c.decode.ensures c.in-Err.is c.args.address in
+    record {
+      value = c.number.ensures ∙ ap read_answer_of h;
+      value_after = ap value_of h;
+      image_after = ap (kept_by_read c.args.image.now) h;
+    }

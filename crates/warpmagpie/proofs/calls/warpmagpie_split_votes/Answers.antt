@@ -4,5 +4,5 @@ use Rattle.warpmagpie.proofs.calls.warpmagpie_split_votes.Goals as goal
 
 pub returns : goal.returns
 returns c =
-    let h = told_is split_votes c.args.image.now c.split_votes.ensures c.tell.ensures.value c.tell.ensures.told_after in
+    let h = told_is split_votes c.args.image.now c.split_votes.ensures c.told.ensures.value c.told.ensures.place_after in
     record { value = h.0; count_after = h.1 }

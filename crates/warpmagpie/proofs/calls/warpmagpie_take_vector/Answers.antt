@@ -1,17 +1,10 @@
-use Rattle.warpmagpie.proofs.Cases.{vector-done, vector-refused}
+use Rattle.std.proofs.Common.{rules, ap, ◌∙◌}
+use Rattle.device.specs.Outcome.{answer_of}
+use Rattle.warpmagpie.proofs.Cases.{taken}
 use Rattle.warpmagpie.proofs.calls.warpmagpie_take_vector.Goals as goal
 
-pub returns-in-Accepted : goal.returns-in-Accepted
-returns-in-Accepted c =
-    let a = c.args in
+pub returns : goal.returns
+returns c =
+    let h = taken c.args.image.now c.decode.ensures c.args.vector c.and_then-taken.ensures (λ d p. search rules) in
     let s = c.settle.ensures in
-    let h =
-    vector-done a.image.now c.decode-got.ensures c.in-Accepted.is a.vector c.take_vector.ensures s.value
-    s.image_after in
-    record { value = h.0; image_after = h.1 }
-
-pub returns-in-Refused : goal.returns-in-Refused
-returns-in-Refused c =
-    let a = c.args in
-    let h = vector-refused a.image.now c.decode-got.ensures c.in-Refused.is c.no_record.ensures a.vector in
-    record { value = h.0; image_after = h.1 }
+    record { value = s.value ∙ ap answer_of h.0; image_after = s.image_after ∙ h.1 }
