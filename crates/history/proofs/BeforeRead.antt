@@ -3,13 +3,12 @@
 -- with the other flags, each with a count of its own.
 use mathlib.Core.Bool.{true, false}
 use mathlib.Core.Path.{◌≡◌, refl}
+use Rattle.std.proofs.Common.{None}
 use Rattle.frame.specs.declared.format.Size.TheVariants.{Nine}
 use Rattle.frame.specs.declared.format.Parity.TheVariants.{Off}
 use Rattle.usart.specs.Settings.{size_of, parity_of}
 use Rattle.usart.specs.declared.queue.Places.TheVariants.{Two}
 use Rattle.usart.specs.declared.sampler.Sampler.TheVariants.{Idle}
-use Rattle.usart.specs.declared.sender.Buffer.TheVariants.{Vacant}
-use Rattle.usart.specs.declared.sender.ShiftRegister.TheVariants.{Resting}
 use Rattle.spi.specs.Control.{divisor_number}
 use Rattle.spi.specs.Unit.{reset_spi}
 use Rattle.device.specs.Address.{place_of}
@@ -28,7 +27,7 @@ two_held = record {
     baud = record { ubrr = 0; left = record { 0 = 0 } };
     format = record { size = Nine; parity = Off; usbs = false; u2x = false };
     control = record { rxcie = false; txcie = false; udrie = false; rxen = true; txen = false; txb8 = false };
-    sender = record { buffer = Vacant; shifter = Resting; txc = false };
+    sender = record { buffer = None; shifter = None; txc = false };
     receiver = record {
       sampler = Idle true;
       queue = record {

@@ -6,6 +6,7 @@ use mathlib.Core.List.{List, [], ◌∷◌, ◌++◌, map}
 use mathlib.Core.Path.{◌≡◌, refl, sym, ap, ap₂, ◌∙◌}
 use lib.Dec.{eqb}
 use lib.ListN.{length}
+use Rattle.std.proofs.Common.{Err, None, Ok, Option, Result, Some}
 use Rattle.choice.specs.Pick.{pick}
 use Rattle.usart.specs.Event.{Event, clock, write as writes, read as reads, vector as takes, next_of, final_of}
 use Rattle.usart.specs.Read.{split_votes as serial_split_votes, read_of as serial_read_of}
@@ -20,25 +21,22 @@ use Rattle.device.specs.Outcome.{answer_of, read_answer_of, value_of}
 use Rattle.device.specs.Register.{serial_written, spi_written, write_in, read_in, vector_of}
 use Rattle.device.specs.Serial.{is_serial, clocks_of, writes_at, reads_at, vectors_at}
 use Rattle.device.specs.Unit.{rxd_in, requests_of, split_votes}
-use Rattle.device.specs.declared.address.Place.{Place}
-use Rattle.device.specs.declared.address.Place.TheVariants.{Serial, Spi, Nowhere}
 use Rattle.answer.specs.declared.Refusal.TheVariants.{Unknown}
-use Rattle.device.specs.declared.outcome.Reading.{Reading}
-use Rattle.device.specs.declared.outcome.Written.{Written}
-use Rattle.device.specs.declared.outcome.Written.TheVariants.{Refused}
 use Rattle.device.specs.declared.unit.Device.{Device}
 use Rattle.device.proofs.OutputLaws.{requests-serial}
 use Rattle.device.proofs.RegisterLaws.{answer-serial}
 use Rattle.device.proofs.SerialLaws.{write-serial, read-serial, vector-serial, run-serial}
 use Rattle.record.specs.Codec.{decode_of}
-use Rattle.record.specs.declared.codec.Decoded.{Decoded}
-use Rattle.record.specs.declared.codec.Decoded.TheVariants.{Accepted}
 use Rattle.record.proofs.Round.{decode-length}
 use Rattle.warpmagpie.specs.Calls.{query_value_on, split_votes_value}
 use Rattle.history.specs.Call.{Call, reset, write, read, vector, pass, effect, record_after, final_record, along, Bytes, usart_of}
 use Rattle.history.specs.Serial.{Serial as Part, event, resets, serial_part, serial_parts, Answer, number, value, txd, serial_answer, request_bits, Alike, Agree}
 use Rattle.history.proofs.StepLaws.{next_device, reset-done, write-on, read-on, vector_on_lem, induct}
 use Rattle.history.proofs.ViewLaws.{usart-is, txd-of}
+use Rattle.answer.specs.declared.Refusal.{Refusal}
+use Rattle.answer.specs.declared.Reading.{Reading}
+use Rattle.device.specs.declared.address.Place.{Place}
+use Rattle.device.specs.declared.address.Place.TheVariants.{Serial, Spi}
 
 -- what a part does to the serial unit, and what it is answered
 abbrev after_part : Usart → Part → Usart
@@ -73,18 +71,18 @@ last-events u [] = refl
 last-events u (e ∷ es) = last-events (next_of u e) es
 
 -- the answers of each call
-write-at : (d : Device) (p : Place) (v : ℕ) → pick (is_serial p) (number (answer_of (write_in d p v)) ∷ []) [] ≡ answers_at d.usart (map event (writes_at p v))
-write-at d (Serial r) v = ap (λ (n : ℕ). number n ∷ []) (answer-serial d (serial_write_of d.usart r v))
-write-at d (Spi r) v = refl
-write-at d Nowhere v = refl
+write-at : (d : Device) (p : Option Place) (v : ℕ) → pick (is_serial p) (number (answer_of (write_in d p v)) ∷ []) [] ≡ answers_at d.usart (map event (writes_at p v))
+write-at d (Some (Serial r)) v = ap (λ (n : ℕ). number n ∷ []) (answer-serial d (serial_write_of d.usart r v))
+write-at d (Some (Spi r)) v = refl
+write-at d None v = refl
 
-read_at : (d : Device) (p : Place) → pick (is_serial p) (value (read_answer_of (read_in d p)) (value_of (read_in d p)) ∷ []) [] ≡ answers_at d.usart (map event (reads_at p))
-read_at d (Serial r) = refl
-read_at d (Spi r) = refl
-read_at d Nowhere = refl
+read_at : (d : Device) (p : Option Place) → pick (is_serial p) (value (read_answer_of (read_in d p)) (value_of (read_in d p)) ∷ []) [] ≡ answers_at d.usart (map event (reads_at p))
+read_at d (Some (Serial r)) = refl
+read_at d (Some (Spi r)) = refl
+read_at d None = refl
 
 vector-in : (d : Device) (a b : Bool)
-    → pick a (number (answer_of (pick a (serial_written d (serial_vector_of d.usart)) (pick b (spi_written d (spi_vector_of d.spi)) (Refused Unknown)))) ∷ []) []
+    → pick a (number (answer_of (pick a (serial_written d (serial_vector_of d.usart)) (pick b (spi_written d (spi_vector_of d.spi)) (Err Unknown)))) ∷ []) []
     ≡ answers_at d.usart (map event (pick a (takes ∷ []) []))
 vector-in d true b = ap (λ (n : ℕ). number n ∷ []) (answer-serial d (serial_vector_of d.usart))
 vector-in d false b = refl
@@ -97,13 +95,13 @@ clocks-at : (u : Usart) (ls : List ℕ) → map txd (outputs_at u (clocks_of ls)
 clocks-at u [] = refl
 clocks-at u (l ∷ ls) = ap (◌∷◌ (txd (output_of (clock_of u (rxd_in l))))) (clocks-at (clock_of u (rxd_in l)) ls)
 
-answer-by : (s : List ℕ) (d : Device) → decode_of s ≡ Accepted d → (c : Call) → serial_answer s c ≡ answers_at d.usart (serial_part s c)
-answer-by s d h reset = ap (λ (w : Written). number (answer_of w) ∷ []) (reset-done s (decode-length s d h))
+answer-by : (s : List ℕ) (d : Device) → decode_of s ≡ Ok d → (c : Call) → serial_answer s c ≡ answers_at d.usart (serial_part s c)
+answer-by s d h reset = ap (λ (w : Result Device Refusal). number (answer_of w) ∷ []) (reset-done s (decode-length s d h))
 answer-by s d h (write a v) =
-    ap (λ (w : Written). pick (is_serial (place_of a)) (number (answer_of w) ∷ []) []) (write-on s d h a v) ∙ write-at d (place_of a) v
+    ap (λ (w : Result Device Refusal). pick (is_serial (place_of a)) (number (answer_of w) ∷ []) []) (write-on s d h a v) ∙ write-at d (place_of a) v
 answer-by s d h (read a) =
-    ap (λ (g : Reading). pick (is_serial (place_of a)) (value (read_answer_of g) (value_of g) ∷ []) []) (read-on s d h a) ∙ read_at d (place_of a)
-answer-by s d h (vector n) = ap (λ (w : Written). pick (eqb n 0) (number (answer_of w) ∷ []) []) (vector_on_lem s d h n) ∙ vector-at d n
+    ap (λ (g : Result (Reading Device) Refusal). pick (is_serial (place_of a)) (value (read_answer_of g) (value_of g) ∷ []) []) (read-on s d h a) ∙ read_at d (place_of a)
+answer-by s d h (vector n) = ap (λ (w : Result Device Refusal). pick (eqb n 0) (number (answer_of w) ∷ []) []) (vector_on_lem s d h n) ∙ vector-at d n
 answer-by s d h (pass p) = ap (map txd) (txd-of s d h (pass p)) ∙ clocks-at d.usart (effect s (pass p)).levels
 
 -- the serial unit after each call
@@ -114,12 +112,12 @@ part_of s d (read a) = read-serial d a ∙ sym (last-events d.usart (reads_at (p
 part_of s d (vector n) = vector-serial d n ∙ sym (last-events d.usart (vectors_at n))
 part_of s d (pass p) = let ls = (effect s (pass p)).levels in run-serial d ls ∙ sym (last-events d.usart (clocks_of ls))
 
-part-is : (s : List ℕ) (d : Device) → decode_of s ≡ Accepted d → (c : Call) → decode_of (record_after s c) ≡ Accepted (next_device s d c)
+part-is : (s : List ℕ) (d : Device) → decode_of s ≡ Ok d → (c : Call) → decode_of (record_after s c) ≡ Ok (next_device s d c)
     → usart_of (record_after s c) ≡ last_of (usart_of s) (serial_part s c)
 part-is s d h c e =
     usart-is (record_after s c) (next_device s d c) e ∙ part_of s d c ∙ ap (λ (u : Usart). last_of u (serial_part s c)) (sym (usart-is s d h))
 
-answers-view : (s : List ℕ) (d : Device) (cs : List Call) → decode_of s ≡ Accepted d → Bytes cs → (j : ℕ)
+answers-view : (s : List ℕ) (d : Device) (cs : List Call) → decode_of s ≡ Ok d → Bytes cs → (j : ℕ)
     → along (λ j. serial_answer) j s cs ≡ answers_at (usart_of s) (along (λ j. serial_part) j s cs)
 answers-view =
     induct (λ s cs. (j : ℕ) → along (λ j. serial_answer) j s cs ≡ answers_at (usart_of s) (along (λ j. serial_part) j s cs))
@@ -129,7 +127,7 @@ answers-view =
     ap₂ (◌++◌) (answer-by s d h c ∙ ap (λ (u : Usart). answers_at u (serial_part s c)) (sym (usart-is s d h))) (k _ ∙ ap (λ (u : Usart). answers_at u rest) (part-is s d h c e))
     ∙ sym (answers-append (usart_of s) (serial_part s c) rest))
 
-final-parts : (s : List ℕ) (d : Device) (cs : List Call) → decode_of s ≡ Accepted d → Bytes cs → (j : ℕ)
+final-parts : (s : List ℕ) (d : Device) (cs : List Call) → decode_of s ≡ Ok d → Bytes cs → (j : ℕ)
     → usart_of (final_record s cs) ≡ last_of (usart_of s) (along (λ j. serial_part) j s cs)
 final-parts =
     induct (λ s cs. (j : ℕ) → usart_of (final_record s cs) ≡ last_of (usart_of s) (along (λ j. serial_part) j s cs))
@@ -139,20 +137,20 @@ final-parts =
     k _ ∙ ap (λ (u : Usart). last_of u rest) (part-is s d h c e) ∙ sym (last-append (usart_of s) (serial_part s c) rest))
 
 -- request bits 0 to 2 are those of the serial unit
-bits_of : (s : List ℕ) (d : Device) → decode_of s ≡ Accepted d → request_bits s ≡ serial_requests (usart_of s)
+bits_of : (s : List ℕ) (d : Device) → decode_of s ≡ Ok d → request_bits s ≡ serial_requests (usart_of s)
 unfolding query_value_on
-bits_of s d h = ap (λ (x : Decoded). query_value_on requests_of x % 8) h ∙ requests-serial d ∙ sym (ap serial_requests (usart-is s d h))
+bits_of s d h = ap (λ (x : Result Device Refusal). query_value_on requests_of x % 8) h ∙ requests-serial d ∙ sym (ap serial_requests (usart-is s d h))
 
-final-bits : (s : List ℕ) (d : Device) (cs : List Call) → decode_of s ≡ Accepted d → Bytes cs
+final-bits : (s : List ℕ) (d : Device) (cs : List Call) → decode_of s ≡ Ok d → Bytes cs
     → request_bits (final_record s cs) ≡ serial_requests (usart_of (final_record s cs))
 final-bits = induct (λ s cs. request_bits (final_record s cs) ≡ serial_requests (usart_of (final_record s cs))) bits_of (λ s d h c cs e k. k)
 
 -- so are the split votes
-splits_of : (s : List ℕ) (d : Device) → decode_of s ≡ Accepted d → split_votes_value s ≡ serial_split_votes (usart_of s)
+splits_of : (s : List ℕ) (d : Device) → decode_of s ≡ Ok d → split_votes_value s ≡ serial_split_votes (usart_of s)
 unfolding query_value_on
 splits_of s d h = ap (query_value_on split_votes) h ∙ sym (ap serial_split_votes (usart-is s d h))
 
-final-splits : (s : List ℕ) (d : Device) (cs : List Call) → decode_of s ≡ Accepted d → Bytes cs
+final-splits : (s : List ℕ) (d : Device) (cs : List Call) → decode_of s ≡ Ok d → Bytes cs
     → split_votes_value (final_record s cs) ≡ serial_split_votes (usart_of (final_record s cs))
 final-splits = induct (λ s cs. split_votes_value (final_record s cs) ≡ serial_split_votes (usart_of (final_record s cs))) splits_of (λ s d h c cs e k. k)
 

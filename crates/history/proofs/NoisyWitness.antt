@@ -6,6 +6,7 @@ use mathlib.Core.Bool.{true}
 use mathlib.Core.List.{List, [], ◌∷◌}
 use mathlib.Core.Path.{◌≡◌, refl}
 use lib.Dec.{lit≤, lit<}
+use Rattle.std.proofs.Common.{Ok}
 use Rattle.choice.specs.Pick.{digit}
 use Rattle.frame.specs.Parity.{sum_of_bits}
 use Rattle.frame.specs.Word.{frame_bit, parity_error}
@@ -41,7 +42,6 @@ use Rattle.record.specs.Codec.{record_of, decode_of}
 use Rattle.record.specs.Codes.{flag_of}
 use Rattle.record.specs.Parts.{buffer_from, shifter_from, sampler_from, places_from}
 use Rattle.record.specs.Accepts.{is_within, counter_fits, buffer_fits, shifter_fits, is_undecided, first_fits, second_fits, reception_fits, sampler_fits, places_fit, waiting_fits, enabled_fits, usart_fits, out_fits, master_fits, slave_fits, spi_fits, accepts, is_record}
-use Rattle.record.specs.declared.codec.Decoded.TheVariants.{Accepted}
 use Rattle.warpmagpie.specs.Calls.{query_value_on, write_on, read_on, run_on}
 use Rattle.holding.specs.Hold.{hold_in, hold_on}
 use Rattle.history.specs.Call.{run, hold, Call, write, read, pass, report, split_votes, Bytes, rxd_levels}
@@ -79,7 +79,7 @@ bytes = (tt, (tt, (lit< tt, (lit< tt, (lit< tt, (tt, (tt, (tt, (tt, (tt, (tt, (t
 
 -- what is found by computing on the record
 record Found (s : List ℕ) : Type 0 where
-  valid : decode_of s ≡ Accepted start
+  valid : decode_of s ≡ Ok start
   only : throughout only s calls ≡ true
   roomy : throughout roomy s calls ≡ true
   line : LineOnWire noisy 2440 100 two_frames slower.format 2 (rxd_levels s calls)

@@ -5,6 +5,7 @@ use mathlib.Core.List.{List, [], ◌∷◌, map, append-nil}
 use mathlib.Core.Path.{◌≡◌, refl, sym, ap, ap₂, subst, ◌∙◌}
 use lib.Dec.{eqb}
 use borrow.Author.Tests.{eq-eqb}
+use Rattle.std.proofs.Common.{Err, None, Ok, Option, Result, Some}
 use Rattle.choice.specs.Bit.{bit_at}
 use Rattle.choice.specs.Pick.{pick}
 use Rattle.choice.proofs.Picks.{clash}
@@ -15,8 +16,6 @@ use Rattle.usart.specs.Unit.{clock_of}
 use Rattle.usart.specs.Write.{write_of as serial_write_of}
 use Rattle.usart.specs.declared.unit.Usart.{Usart}
 use Rattle.usart.specs.declared.write.Register.TheVariants.{Ucsr0a, Ucsr0b, Udr0}
-use Rattle.usart.specs.declared.write.Written.{Written as SerialWritten}
-use Rattle.usart.specs.declared.write.Written.TheVariants.{Done as SerialDone, Refused as SerialRefused}
 use Rattle.usart.proofs.AppendLaws.{levels-append, only-append, none-waits-append, reads-append, arrivals-append, clocks-append}
 use Rattle.device.specs.Address.{place_of}
 use Rattle.device.specs.Outcome.{answer_of, value_of}
@@ -24,17 +23,17 @@ use Rattle.device.specs.Register.{serial_written, write_in}
 use Rattle.device.proofs.SerialLaws.{is_data}
 use Rattle.device.specs.Serial.{is_serial, clocks_of, writes_at, reads_at}
 use Rattle.device.specs.Unit.{rxd_in, split_votes}
-use Rattle.device.specs.declared.address.Place.{Place}
-use Rattle.device.specs.declared.address.Place.TheVariants.{Serial, Spi, Nowhere}
 use Rattle.device.specs.declared.unit.Device.{Device}
 use Rattle.device.proofs.SerialLaws.{data-address, levels-serial, writes_are, reads-are, vectors-are}
 use Rattle.record.specs.Codec.{decode_of}
-use Rattle.record.specs.declared.codec.Decoded.TheVariants.{Accepted}
 use Rattle.warpmagpie.specs.Calls.{query_value_on, read_value, split_votes_value}
 use Rattle.history.specs.Call.{Call, reset, write, read, vector, pass, effect, record_after, along, Throughout, usart_of, OnlyDataCall, rxd_levels}
 use Rattle.history.specs.Receiving.{NoneWaits, seen_by, taken_by, reads_of, arrivals_of}
 use Rattle.history.proofs.StepLaws.{write-on, read-on}
 use Rattle.history.proofs.ViewLaws.{events_of, view_of, events-are, Acts, usart-is, view}
+use Rattle.answer.specs.declared.Refusal.{Refusal}
+use Rattle.device.specs.declared.address.Place.{Place}
+use Rattle.device.specs.declared.address.Place.TheVariants.{Serial, Spi}
 
 -- only clocks show levels
 pub rxd-view : (s : List ℕ) (cs : List Call) → Throughout Acts s cs → rxd_levels s cs ≡ levels_of (view_of s cs)
@@ -57,22 +56,22 @@ none-waits-view s (c ∷ cs) a f =
     (subst (λ (u : Usart). NoneWaitsAt u (view_of (record_after s c) cs)) a.0.next (none-waits-view (record_after s c) cs a.1 f.1))
 
 -- a write of another serial register than UDR0 is refused by the unit
-refused-in : (d : Device) (w : SerialWritten) → (answer_of (serial_written d w) ≡ 0 → ⊥) → is_refused w ≡ true
-refused-in d (SerialDone u) n = absurd (n refl)
-refused-in d (SerialRefused r) n = refl
+refused-in : (d : Device) (w : Result Usart Refusal) → (answer_of (serial_written d w) ≡ 0 → ⊥) → is_refused w ≡ true
+refused-in d (Ok u) n = absurd (n refl)
+refused-in d (Err r) n = refl
 
-only-in : (d : Device) (a v : ℕ) (p : Place) → place_of a ≡ p → (answer_of (write_in d p v) ≡ 0 → is_serial p ≡ true → a ≡ 0xC6)
+only-in : (d : Device) (a v : ℕ) (p : Option Place) → place_of a ≡ p → (answer_of (write_in d p v) ≡ 0 → is_serial p ≡ true → a ≡ 0xC6)
     → OnlyDataAt d.usart (writes_at p v)
-only-in d a v (Serial r) e o =
+only-in d a v (Some (Serial r)) e o =
     (λ n. refused-in d (serial_write_of d.usart r v) (λ z. clash (sym (ap is_data e) ∙ data-address a ∙ eq-eqb a 0xC6 (o z refl)) n), tt)
-only-in d a v (Spi r) e o = tt
-only-in d a v Nowhere e o = tt
+only-in d a v (Some (Spi r)) e o = tt
+only-in d a v None e o = tt
 
 only-clocks : (u : Usart) (ls : List ℕ) → OnlyDataAt u (clocks_of ls)
 only-clocks u [] = tt
 only-clocks u (l ∷ ls) = only-clocks (clock_of u (rxd_in l)) ls
 
-only-by : (s : List ℕ) (d : Device) → decode_of s ≡ Accepted d → (c : Call) → OnlyDataCall s c → OnlyDataAt d.usart (events_of s c)
+only-by : (s : List ℕ) (d : Device) → decode_of s ≡ Ok d → (c : Call) → OnlyDataCall s c → OnlyDataAt d.usart (events_of s c)
 only-by s d h reset o = absurd o
 only-by s d h (write a v) o = only-in d a v (place_of a) refl (λ z. o (ap answer_of (write-on s d h a v) ∙ z))
 only-by s d h (read a) o = reads-are (OnlyDataAt d.usart) tt (λ r. tt) (place_of a)
@@ -93,7 +92,7 @@ abbrev seen_of : ℕ → ℕ → ℕ → ℕ → Seen
 seen_of v b a c = record { value = v; rxb8 = bit_at b 1; fe = bit_at a 4; dor = bit_at a 3; upe = bit_at a 2; splits = c }
 
 -- what the registers read, and the split votes
-module _ (s : List ℕ) (d : Device) (h : decode_of s ≡ Accepted d) where
+module _ (s : List ℕ) (d : Device) (h : decode_of s ≡ Ok d) where
   pub ucsr0a-is : read_value s 0xC0 ≡ (serial_read_of d.usart Ucsr0a).value
   unfolding place_of
   ucsr0a-is = ap value_of (read-on s d h 0xC0)
@@ -119,16 +118,16 @@ module _ (s : List ℕ) (d : Device) (h : decode_of s ≡ Accepted d) where
 abbrev seen_if : Usart → List Seen
 seen_if u = pick (eqb (bit_at (serial_read_of u Ucsr0a).value 7) 1) (seen_at u ∷ []) []
 
-taken_in : (u : Usart) (p : Place) → pick (is_data p) (seen_if u) [] ≡ reads_in u (reads_at p)
-taken_in u (Serial r) = sym (append-nil (pick (is_udr0 r) (seen_if u) []))
-taken_in u (Spi r) = refl
-taken_in u Nowhere = refl
+taken_in : (u : Usart) (p : Option Place) → pick (is_data p) (seen_if u) [] ≡ reads_in u (reads_at p)
+taken_in u (Some (Serial r)) = sym (append-nil (pick (is_udr0 r) (seen_if u) []))
+taken_in u (Some (Spi r)) = refl
+taken_in u None = refl
 
 clocks-take : (u : Usart) (ls : List ℕ) → [] ≡ reads_in u (clocks_of ls)
 clocks-take u [] = refl
 clocks-take u (l ∷ ls) = clocks-take (clock_of u (rxd_in l)) ls
 
-taken-by : (s : List ℕ) (d : Device) → decode_of s ≡ Accepted d → (c : Call) → taken_by s c ≡ reads_in d.usart (events_of s c)
+taken-by : (s : List ℕ) (d : Device) → decode_of s ≡ Ok d → (c : Call) → taken_by s c ≡ reads_in d.usart (events_of s c)
 taken-by s d h reset = refl
 taken-by s d h (write a v) = writes_are (λ (es : List Event). [] ≡ reads_in d.usart es) v refl (λ r. refl) (place_of a)
 taken-by s d h (read a) = rw (seen-is s d h, ucsr0a-is s d h, ← data-address a) (taken_in d.usart (place_of a))

@@ -7,13 +7,12 @@ use native.Mathlib.Omega.{arith}
 use lib.Dec.{eqb}
 use lib.ListN.{length, replicate, length-replicate}
 use borrow.Author.Tests.{eq-eqb, ne_eqb, lt-ltb}
+use Rattle.std.proofs.Common.{Ok, Result}
 use Rattle.choice.specs.Pick.{pick}
 use Rattle.device.specs.Outcome.{answer_of, read_answer_of, value_of}
 use Rattle.device.specs.Register.{write_of, read_of, vector_of}
 use Rattle.device.specs.Run.{ran_of, are_levels}
 use Rattle.device.specs.Unit.{reset_device}
-use Rattle.device.specs.declared.outcome.Written.{Written}
-use Rattle.device.specs.declared.outcome.Written.TheVariants.{Done}
 use Rattle.device.specs.declared.unit.Device.{Device}
 use Rattle.device.proofs.HoldingLaws.{held-ran}
 use Rattle.trace.specs.Text.{InRange, AllInRange}
@@ -25,14 +24,13 @@ use Rattle.playback.specs.declared.replaying.Replayed.{Replayed}
 use Rattle.playback.proofs.ReplayLaws.{replays}
 use Rattle.record.specs.Codec.{record_of, decode_of}
 use Rattle.record.specs.Layout.{record_length}
-use Rattle.record.specs.declared.codec.Decoded.{Decoded}
-use Rattle.record.specs.declared.codec.Decoded.TheVariants.{Accepted}
 use Rattle.record.proofs.Round.{record-decode}
 use Rattle.warpmagpie.specs.Calls.{record_after_reset, write_answer, read_answer, read_value, vector_answer, run_on}
 use Rattle.history.specs.Call.{pass, run, effect, record_after, final_record, ByteCall}
 use Rattle.history.specs.Replaying.{call_of, Answered, AllAnswered, record_after_items, Answers, Replaying}
 use Rattle.history.proofs.StepLaws.{write-on, read-on, vector_on_lem, step}
 use Rattle.history.proofs.Reached.{reset-record}
+use Rattle.answer.specs.declared.Refusal.{Refusal}
 
 -- a run of equal level bytes is done
 levels-low : (c l : ℕ) → l ≤ 31 → are_levels (replicate c l) ≡ true
@@ -42,7 +40,7 @@ levels-low (suc c) l h = rw (lt-ltb l 32 (omega arith)) (levels-low c l h)
 
 -- an item on the record s of the device d, and its call there
 record Steps (s : List ℕ) (d : Device) (i : Item) : Type 0 where
-  after : decode_of (record_after s (call_of i)) ≡ Accepted (step_of d i).device
+  after : decode_of (record_after s (call_of i)) ≡ Ok (step_of d i).device
   agrees : Answered s i → Agrees d i
   answered : Agrees d i → Answered s i
 
@@ -52,15 +50,15 @@ byte-call (Read a v n) r = tt
 byte-call (Vector k n) r = tt
 byte-call (Clocks l c) r = tt
 
-module _ (s : List ℕ) (d : Device) (h : decode_of s ≡ Accepted d) where
+module _ (s : List ℕ) (d : Device) (h : decode_of s ≡ Ok d) where
   run-passed : (l c : ℕ) → l ≤ 31 → (effect s (pass (run (replicate c l) (replicate c 0)))).levels ≡ replicate c l
   unfolding run_on
   run-passed l c r =
       let zeros : List ℕ = replicate c 0 in
       let even : length zeros ≡ length (replicate c l) = length-replicate c 0 ∙ sym (length-replicate c l) in
-      let w : run_on (decode_of s) (replicate c l) (replicate c 0) ≡ Done (ran_of d (replicate c l)) =
-      ap (λ (x : Decoded). run_on x (replicate c l) (replicate c 0)) h ∙ (rw (eq-eqb _ _ even, levels-low c l r)) in
-      ap (λ (x : Written). pick (eqb (answer_of x) 0) (replicate c l) []) w
+      let w : run_on (decode_of s) (replicate c l) (replicate c 0) ≡ Ok (ran_of d (replicate c l)) =
+      ap (λ (x : Result Device Refusal). run_on x (replicate c l) (replicate c 0)) h ∙ (rw (eq-eqb _ _ even, levels-low c l r)) in
+      ap (λ (x : Result Device Refusal). pick (eqb (answer_of x) 0) (replicate c l) []) w
 
   steps : (i : Item) → InRange i → Steps s d i
   unfolding step_of
@@ -89,18 +87,18 @@ module _ (s : List ℕ) (d : Device) (h : decode_of s ≡ Accepted d) where
   steps (Clocks l c) r = record {
     after =
         step s d h (call_of (Clocks l c)) tt
-        ∙ ap (λ (ls : List ℕ). Accepted (ran_of d ls)) (run-passed l c r.0)
-        ∙ ap Accepted (sym (held-ran c d l));
+        ∙ ap (λ (ls : List ℕ). Ok (ran_of d ls)) (run-passed l c r.0)
+        ∙ ap Ok (sym (held-ran c d l));
     agrees = λ q. tt;
     answered = λ q. tt;
   }
 
 -- items one after another
 record Follows (s : List ℕ) (d : Device) (is : List Item) : Type 0 where
-  after : decode_of (final_record s (map call_of is)) ≡ Accepted (after_items d is)
+  after : decode_of (final_record s (map call_of is)) ≡ Ok (after_items d is)
   agree : AllAgree d is
 
-follows : (s : List ℕ) (d : Device) → decode_of s ≡ Accepted d → (is : List Item) → AllInRange is → AllAnswered s is → Follows s d is
+follows : (s : List ℕ) (d : Device) → decode_of s ≡ Ok d → (is : List Item) → AllInRange is → AllAnswered s is → Follows s d is
 follows s d h [] r a = record { after = h; agree = tt }
 follows s d h (i ∷ is) r a =
     let x = steps s d h i r.0 in

@@ -4,6 +4,7 @@ use Prim.Native.Nat.{ℕ, suc, ◌+◌, ◌*◌}
 use mathlib.Core.List.{List, [], ◌∷◌, ◌++◌, map, append-nil}
 use mathlib.Core.Path.{◌≡◌, refl, sym, ap, subst, ◌∙◌}
 use lib.Dec.{eqb}
+use Rattle.std.proofs.Common.{None, Ok, Option, Some}
 use Rattle.choice.specs.Bit.{bit_at}
 use Rattle.choice.specs.Pick.{pick, digit}
 use Rattle.choice.proofs.Digits.{digit-is}
@@ -22,17 +23,16 @@ use Rattle.device.specs.Unit.{txd_bits}
 use Rattle.device.proofs.SerialLaws.{is_data}
 use Rattle.device.specs.Serial.{clocks_of, writes_at}
 use Rattle.device.specs.Unit.{rxd_in}
-use Rattle.device.specs.declared.address.Place.{Place}
-use Rattle.device.specs.declared.address.Place.TheVariants.{Serial, Spi, Nowhere}
 use Rattle.device.specs.declared.unit.Device.{Device}
 use Rattle.device.proofs.SerialLaws.{data-address, reads-are, vectors-are}
 use Rattle.record.specs.Codec.{decode_of}
-use Rattle.record.specs.declared.codec.Decoded.TheVariants.{Accepted}
 use Rattle.record.proofs.Round.{decode-valid}
 use Rattle.history.specs.Call.{Call, reset, write, read, vector, pass, effect, final_record, Throughout, device_in, device_of, usart_of}
 use Rattle.history.specs.Sending.{MaySend, accepted_by, taken_of, txd_levels}
 use Rattle.history.proofs.ViewLaws.{events_of, view_of, Acts, usart-is, all-act, view, final-view}
 use Rattle.history.proofs.ReceivingView.{ucsr0a-is, ucsr0b-is, only-view}
+use Rattle.device.specs.declared.address.Place.{Place}
+use Rattle.device.specs.declared.address.Place.TheVariants.{Serial, Spi}
 
 -- only clocks show outputs
 txd-view : (s : List ℕ) (cs : List Call) → Throughout Acts s cs → txd_levels s cs ≡ outputs_at (usart_of s) (view_of s cs)
@@ -42,23 +42,23 @@ txd-view = view (λ j s c. map txd_bits (effect s c).outputs) (λ j. outputs_at)
 abbrev given : Usart → ℕ → List ℕ
 given u v = pick (is_vacant u.sender.buffer) (data_of u.format (digit u.control.txb8 * 256 + v) ∷ []) []
 
-given-in : (j : ℕ) (u : Usart) (p : Place) (v : ℕ) → map (taken_at j) (pick (is_data p) (given u v) []) ≡ taken_in j u (writes_at p v)
-given-in j u (Serial r) v = sym (append-nil (map (taken_at j) (pick (is_udr0 r) (given u v) [])))
-given-in j u (Spi r) v = refl
-given-in j u Nowhere v = refl
+given-in : (j : ℕ) (u : Usart) (p : Option Place) (v : ℕ) → map (taken_at j) (pick (is_data p) (given u v) []) ≡ taken_in j u (writes_at p v)
+given-in j u (Some (Serial r)) v = sym (append-nil (map (taken_at j) (pick (is_udr0 r) (given u v) [])))
+given-in j u (Some (Spi r)) v = refl
+given-in j u None v = refl
 
 clocks-give : (j : ℕ) (u : Usart) (ls : List ℕ) → [] ≡ taken_in j u (clocks_of ls)
 clocks-give j u [] = refl
 clocks-give j u (l ∷ ls) = clocks-give (suc j) (clock_of u (rxd_in l)) ls
 
-write-gives : (j : ℕ) (s : List ℕ) (d : Device) → decode_of s ≡ Accepted d → (a v : ℕ)
+write-gives : (j : ℕ) (s : List ℕ) (d : Device) → decode_of s ≡ Ok d → (a v : ℕ)
     → map (taken_at j) (accepted_by s (write a v)) ≡ taken_in j d.usart (writes_at (place_of a) v)
 write-gives j s d h a v =
     let u = d.usart in
     let udre : eqb (bit_at (ucsr0a u) 5) 1 ≡ is_vacant u.sender.buffer = ap (λ (x : ℕ). eqb x 1) (status u).bit5 ∙ digit-is (is_vacant u.sender.buffer) in
     rw (ucsr0a-is s d h, ucsr0b-is s d h, udre, txb8-bit u, usart-is s d h, ← data-address a) (given-in j u (place_of a) v)
 
-taken-by : (j : ℕ) (s : List ℕ) (d : Device) → decode_of s ≡ Accepted d → (c : Call) → map (taken_at j) (accepted_by s c) ≡ taken_in j d.usart (events_of s c)
+taken-by : (j : ℕ) (s : List ℕ) (d : Device) → decode_of s ≡ Ok d → (c : Call) → map (taken_at j) (accepted_by s c) ≡ taken_in j d.usart (events_of s c)
 taken-by j s d h reset = refl
 taken-by j s d h (write a v) = write-gives j s d h a v
 taken-by j s d h (read a) = reads-are (λ (es : List Event). [] ≡ taken_in j d.usart es) refl (λ r. refl) (place_of a)

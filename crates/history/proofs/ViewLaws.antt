@@ -5,6 +5,7 @@ use mathlib.Core.List.{List, [], ◌∷◌, ◌++◌, map}
 use mathlib.Core.Path.{◌≡◌, refl, sym, ap, ap₂, ◌∙◌}
 use native.Mathlib.Omega.{arith}
 use lib.ListN.{length}
+use Rattle.std.proofs.Common.{Ok, Result}
 use Rattle.usart.specs.Event.{Event, write as writes, read as reads, vector as takes, final_of, levels_of}
 use Rattle.usart.specs.Sending.{outputs_of as outputs_at}
 use Rattle.usart.specs.declared.unit.Usart.{Usart}
@@ -17,10 +18,9 @@ use Rattle.device.specs.Serial.{clocks_of, writes_at, reads_at, vectors_at}
 use Rattle.device.specs.declared.unit.Device.{Device}
 use Rattle.device.proofs.SerialLaws.{write-serial, read-serial, vector-serial, run-serial, outputs-serial, writes_are, reads-are, vectors-are}
 use Rattle.record.specs.Codec.{decode_of}
-use Rattle.record.specs.declared.codec.Decoded.{Decoded}
-use Rattle.record.specs.declared.codec.Decoded.TheVariants.{Accepted}
 use Rattle.history.specs.Call.{Call, reset, write, read, vector, pass, effect, record_after, final_record, along, Throughout, Bytes, device_in, usart_of, OnlyDataCall, OnlyData}
 use Rattle.history.proofs.StepLaws.{passes, next_device, induct}
+use Rattle.answer.specs.declared.Refusal.{Refusal}
 
 -- the events of a call; a reset is none
 abbrev pub events_of : List ℕ → Call → List Event
@@ -54,15 +54,15 @@ as_many = events-are (λ ls es. length ls ≡ length (levels_of es)) clocks-as-m
 -- what a call but reset does on a record of a device: to the serial unit what its events do, on TxD what they show
 pub record Acts (s : List ℕ) (c : Call) : Type 0 where
   pub device : Device
-  pub valid : decode_of s ≡ Accepted device
+  pub valid : decode_of s ≡ Ok device
   pub only : OnlyDataCall s c
   pub next : usart_of (record_after s c) ≡ final_of (usart_of s) (events_of s c)
   pub txd : map txd_bits (effect s c).outputs ≡ outputs_at (usart_of s) (events_of s c)
 
-pub usart-is : (s : List ℕ) (d : Device) → decode_of s ≡ Accepted d → usart_of s ≡ d.usart
-usart-is s d h = ap (λ (x : Decoded). (device_in x).usart) h
+pub usart-is : (s : List ℕ) (d : Device) → decode_of s ≡ Ok d → usart_of s ≡ d.usart
+usart-is s d h = ap (λ (x : Result Device Refusal). (device_in x).usart) h
 
-module _ (s : List ℕ) (d : Device) (h : decode_of s ≡ Accepted d) where
+module _ (s : List ℕ) (d : Device) (h : decode_of s ≡ Ok d) where
   pub next-usart : (c : Call) → OnlyDataCall s c → (next_device s d c).usart ≡ final_of d.usart (events_of s c)
   next-usart reset o = absurd o
   next-usart (write a v) o = write-serial d a v
@@ -84,7 +84,7 @@ module _ (s : List ℕ) (d : Device) (h : decode_of s ≡ Accepted d) where
       ap (map txd_bits) (shows-outputs c)
       ∙ events-are (λ ls es. map txd_bits (outputs_of d ls) ≡ outputs_at d.usart es) (outputs-serial d) (λ r v. refl) (λ r. refl) refl s c
 
-  acts : (c : Call) → OnlyDataCall s c → decode_of (record_after s c) ≡ Accepted (next_device s d c) → Acts s c
+  acts : (c : Call) → OnlyDataCall s c → decode_of (record_after s c) ≡ Ok (next_device s d c) → Acts s c
   acts c o e = record {
     device = d;
     valid = h;
@@ -93,7 +93,7 @@ module _ (s : List ℕ) (d : Device) (h : decode_of s ≡ Accepted d) where
     txd = txd-of c ∙ ap (λ (u : Usart). outputs_at u (events_of s c)) (sym (usart-is s d h));
   }
 
-pub all-act : (s : List ℕ) (d : Device) (cs : List Call) → decode_of s ≡ Accepted d → Bytes cs → OnlyData s cs → Throughout Acts s cs
+pub all-act : (s : List ℕ) (d : Device) (cs : List Call) → decode_of s ≡ Ok d → Bytes cs → OnlyData s cs → Throughout Acts s cs
 all-act = induct (λ s cs. OnlyData s cs → Throughout Acts s cs) (λ s d h o. tt) (λ s d h c cs e k o. (acts s d h c o.0 e, k o.1))
 
 -- what is gathered along the calls, if of each call it is the unit's own of its events, is the unit's own of the view

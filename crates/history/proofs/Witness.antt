@@ -7,6 +7,7 @@ use mathlib.Core.Bool.{Bool, true, false}
 use mathlib.Core.List.{List, [], ◌∷◌}
 use mathlib.Core.Path.{◌≡◌, refl}
 use lib.Dec.{lit≤, lit<}
+use Rattle.std.proofs.Common.{None, Ok}
 use Rattle.choice.specs.Pick.{pick, digit}
 use Rattle.frame.specs.Parity.{sum_of_bits}
 use Rattle.frame.specs.Word.{frame_bit, parity_error}
@@ -24,8 +25,6 @@ use Rattle.usart.specs.Unit.{is_busy, clock_of}
 use Rattle.usart.specs.Write.{formatted_of, write_c, is_reserved_c, sized_c, timed_of, transmitted_of, vector_of as serial_vector_of}
 use Rattle.usart.specs.declared.queue.Places.TheVariants.{Empty}
 use Rattle.usart.specs.declared.sampler.Sampler.TheVariants.{Idle}
-use Rattle.usart.specs.declared.sender.Buffer.TheVariants.{Vacant}
-use Rattle.usart.specs.declared.sender.ShiftRegister.TheVariants.{Resting}
 use Rattle.usart.proofs.ClosedLists.{bool-eqb, shown, shown-shows, none, room, none_waits}
 use Rattle.spi.specs.Unit.{reset_spi}
 use Rattle.spi.specs.Clock.{master_of, by_mode_of}
@@ -46,7 +45,6 @@ use Rattle.record.specs.Codec.{record_of, decode_of}
 use Rattle.record.specs.Codes.{flag_of}
 use Rattle.record.specs.Parts.{buffer_from, shifter_from, sampler_from, places_from}
 use Rattle.record.specs.Accepts.{is_within, counter_fits, buffer_fits, shifter_fits, is_undecided, first_fits, second_fits, reception_fits, sampler_fits, places_fit, waiting_fits, enabled_fits, usart_fits, out_fits, master_fits, slave_fits, spi_fits, accepts, is_record}
-use Rattle.record.specs.declared.codec.Decoded.TheVariants.{Accepted}
 use Rattle.warpmagpie.specs.Calls.{write_on, read_on, vector_on, run_on}
 use Rattle.holding.specs.Hold.{hold_in, hold_on}
 use Rattle.history.specs.Call.{run, hold, Call, write, read, vector, pass, report, split_votes, final_record, Bytes, usart_of, OnlyData, rxd_levels}
@@ -65,7 +63,7 @@ start u2x = record {
     baud = record { ubrr = 0; left = record { 0 = 0 } };
     format = record { size = Five; parity = Even; usbs = false; u2x = u2x };
     control = record { rxcie = true; txcie = false; udrie = false; rxen = true; txen = true; txb8 = false };
-    sender = record { buffer = Vacant; shifter = Resting; txc = false };
+    sender = record { buffer = None; shifter = None; txc = false };
     receiver = record { sampler = Idle true; queue = record { places = Empty; lost = false } };
   };
   spi = reset_spi;
@@ -130,7 +128,7 @@ quiet-bytes u2x = (tt, (tt, (lit< tt, (lit< tt, (lit< tt, (tt, (lit< tt, (tt, (t
 -- what is found by computing on the record: it is the device's, the calls' tests hold, the clocks show the line, which
 -- ends within them, and the two histories have the same serial parts
 record Found (u2x : Bool) (s : List ℕ) : Type 0 where
-  valid : decode_of s ≡ Accepted (start u2x)
+  valid : decode_of s ≡ Ok (start u2x)
   only : throughout only s (calls u2x) ≡ true
   roomy : throughout roomy s (calls u2x) ≡ true
   line : LineOn (813 * scale u2x) 100 (frames u2x) (start u2x).usart.format 0 (rxd_levels s (calls u2x))

@@ -1,5 +1,5 @@
 -- A history: a list of calls on a record. Each call gets the record that the last one left, each run slices of its own.
-use Rattle.std.specs.Prelude.{ℕ, ◌+◌, ◌<◌, Bool, true, List, [], ◌∷◌, ◌++◌, map, ◌≡◌, eqb, length, replicate}
+use Rattle.std.specs.Prelude.{ℕ, ◌+◌, ◌<◌, Bool, true, List, [], ◌∷◌, ◌++◌, map, ◌≡◌, eqb, length, replicate, Err, Ok, Result}
 use Rattle.choice.specs.Pick.{pick}
 use Rattle.usart.specs.declared.unit.Usart.{Usart}
 use Rattle.device.specs.Address.{place_of}
@@ -7,10 +7,9 @@ use Rattle.device.specs.Serial.{is_serial}
 use Rattle.device.specs.Unit.{reset_device, rxd_in}
 use Rattle.device.specs.declared.unit.Device.{Device}
 use Rattle.record.specs.Codec.{decode_of}
-use Rattle.record.specs.declared.codec.Decoded.{Decoded}
-use Rattle.record.specs.declared.codec.Decoded.TheVariants.{Accepted, Refused}
 use Rattle.warpmagpie.specs.Calls.{reset_answer, record_after_reset, write_answer, record_after_write, read_answer, record_after_read, vector_answer, record_after_vector, run_answer, record_after_run, outputs_on, outputs_after_run, requests_answer, split_votes_answer}
 use Rattle.holding.specs.Hold.{hold_answer, record_after_hold}
+use Rattle.answer.specs.declared.Refusal.{Refusal}
 
 -- what passes clocks, or none, and touches no register: a run, with its slices of levels and outputs; a hold of a level
 -- byte for so many clocks; and any query, a call that leaves the record as it is, by the number that it answers
@@ -95,9 +94,9 @@ Bytes [] = Unit {0}
 Bytes (c ∷ cs) = ByteCall c × Bytes cs
 
 -- the device of a record. One that is refused has none; the statements do not look at it then
-abbrev pub device_in : Decoded → Device
-device_in (Accepted d) = d
-device_in Refused = reset_device
+abbrev pub device_in : Result Device Refusal → Device
+device_in (Ok d) = d
+device_in (Err _) = reset_device
 
 abbrev pub device_of : List ℕ → Device
 device_of s = device_in (decode_of s)

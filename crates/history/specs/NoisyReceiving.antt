@@ -1,6 +1,6 @@
 -- Demand 3 over calls on a record with M-112's noise: what is asked of the record, the calls and the wire, and what comes
 -- of them (`DeliveredAs` of the serial unit's, said of these).
-use Rattle.std.specs.Prelude.{ℕ, Bool, List, ◌≡◌}
+use Rattle.std.specs.Prelude.{ℕ, Bool, List, ◌≡◌, Ok}
 use Rattle.frame.specs.Format.{word_bits}
 use Rattle.usart.specs.Line.{Sent}
 use Rattle.usart.specs.Noise.{Noise, Allowed, noisy_level}
@@ -10,14 +10,13 @@ use Rattle.usart.specs.NoisyReceiving.{LineOnWire, DeliveredAs}
 use Rattle.device.specs.Serial.{clocks_of}
 use Rattle.device.specs.declared.unit.Device.{Device}
 use Rattle.record.specs.Codec.{decode_of}
-use Rattle.record.specs.declared.codec.Decoded.TheVariants.{Accepted}
 use Rattle.history.specs.Call.{Call, effect, along, final_record, Bytes, usart_of, OnlyData, rxd_levels}
 use Rattle.history.specs.Receiving.{NoneWaits, reads_of, arrivals_of}
 
 -- the line fs, on a wire with the levels w, is what the clocks show to the device d of the record s, which is enabled,
 -- idle, with the last sample high, nothing held, none waiting and no loss pending
 pub record HearsOn (w : ℕ → Bool) (P Q : ℕ) (fs : List Sent) (d : Device) (s : List ℕ) (cs : List Call) : Type 0 where
-  pub valid : decode_of s ≡ Accepted d
+  pub valid : decode_of s ≡ Ok d
   pub ready : Ready d.usart
   pub bytes : Bytes cs
   pub only_data : OnlyData s cs

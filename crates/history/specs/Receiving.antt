@@ -1,6 +1,6 @@
 -- Demand 3 (document 01, 'The line of demand 3', as M-103 of document 02 changes it): what is asked of the record, the
 -- calls and the line, and what comes of them (`Delivered` of the serial unit's, said of these).
-use Rattle.std.specs.Prelude.{ℕ, List, [], ◌∷◌, ◌≡◌, eqb}
+use Rattle.std.specs.Prelude.{ℕ, List, [], ◌∷◌, ◌≡◌, eqb, Ok}
 use Rattle.choice.specs.Bit.{bit_at}
 use Rattle.choice.specs.Pick.{pick}
 use Rattle.usart.specs.Line.{Sent}
@@ -8,7 +8,6 @@ use Rattle.usart.specs.Receiving.{Ready, held_by, waiting_by, LineOn, Seen, Arri
 use Rattle.device.specs.Serial.{clocks_of}
 use Rattle.device.specs.declared.unit.Device.{Device}
 use Rattle.record.specs.Codec.{decode_of}
-use Rattle.record.specs.declared.codec.Decoded.TheVariants.{Accepted}
 use Rattle.warpmagpie.specs.Calls.{read_value, split_votes_value}
 use Rattle.history.specs.Call.{Call, reset, write, read, vector, pass, effect, along, gathered, Throughout, final_record, Bytes, usart_of, OnlyData, rxd_levels}
 
@@ -19,7 +18,7 @@ NoneWaits s cs = Throughout (λ s c. NoneWaitsAt (usart_of s) (clocks_of (effect
 -- the line fs is what the clocks show to the device d of the record s, which is enabled, idle, with the last sample
 -- high, nothing held, none waiting and no loss pending
 pub record Hears (P Q : ℕ) (fs : List Sent) (d : Device) (s : List ℕ) (cs : List Call) : Type 0 where
-  pub valid : decode_of s ≡ Accepted d
+  pub valid : decode_of s ≡ Ok d
   pub ready : Ready d.usart
   pub bytes : Bytes cs
   pub only_data : OnlyData s cs

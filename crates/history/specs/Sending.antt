@@ -1,6 +1,6 @@
 -- The sender's line over a history (document 01: 'The model's own sender ..'): what is asked of record and calls, and
 -- what of them the serial unit's `Sends` speaks of.
-use Rattle.std.specs.Prelude.{ℕ, ◌+◌, ◌*◌, List, [], ◌∷◌, map, ◌≡◌, eqb}
+use Rattle.std.specs.Prelude.{ℕ, ◌+◌, ◌*◌, List, [], ◌∷◌, map, ◌≡◌, eqb, Ok}
 use Rattle.choice.specs.Bit.{bit_at}
 use Rattle.choice.specs.Pick.{pick}
 use Rattle.frame.specs.Word.{data_of}
@@ -8,13 +8,12 @@ use Rattle.usart.specs.Sending.{ReadyToSend, Taken, taken_at}
 use Rattle.device.specs.Unit.{txd_bits}
 use Rattle.device.specs.declared.unit.Device.{Device}
 use Rattle.record.specs.Codec.{decode_of}
-use Rattle.record.specs.declared.codec.Decoded.TheVariants.{Accepted}
 use Rattle.warpmagpie.specs.Calls.{read_value}
 use Rattle.history.specs.Call.{Call, reset, write, read, vector, pass, effect, along, gathered, Bytes, usart_of, OnlyData}
 
 -- enabled, nothing in shift at first; no serial register but UDR0 written, and no reset
 pub record MaySend (d : Device) (s : List ℕ) (cs : List Call) : Type 0 where
-  pub valid : decode_of s ≡ Accepted d
+  pub valid : decode_of s ≡ Ok d
   pub ready : ReadyToSend d.usart
   pub bytes : Bytes cs
   pub only_data : OnlyData s cs

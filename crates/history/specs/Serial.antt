@@ -1,7 +1,7 @@
 -- SPI traffic never changes a serial answer (document 01, 'The line of demand 3', its end): what the serial side of a
 -- history is, and what it is answered. A query is no part of it: it may stand anywhere, and bits 0 to 2 of a report,
 -- and all of the split votes, are those of the serial side where it stands.
-use Rattle.std.specs.Prelude.{ℕ, ◌%◌, List, [], ◌∷◌, map, ◌≡◌, eqb}
+use Rattle.std.specs.Prelude.{ℕ, ◌%◌, List, [], ◌∷◌, map, ◌≡◌, eqb, Ok}
 use Rattle.choice.specs.Pick.{pick}
 use Rattle.usart.specs.Event.{Event}
 use Rattle.device.specs.Address.{place_of}
@@ -10,7 +10,6 @@ use Rattle.device.specs.declared.unit.Device.{Device}
 use Rattle.device.specs.Serial.{is_serial, clocks_of, writes_at, reads_at, vectors_at}
 use Rattle.warpmagpie.specs.Calls.{reset_answer, write_answer, read_answer, read_value, vector_answer, requests_value, split_votes_value}
 use Rattle.record.specs.Codec.{decode_of}
-use Rattle.record.specs.declared.codec.Decoded.TheVariants.{Accepted}
 use Rattle.history.specs.Call.{Call, reset, write, read, vector, pass, effect, final_record, gathered, Bytes, usart_of}
 
 -- the serial calls as the serial unit has them (a serial register written or read, vector 0, and the clocks passed,
@@ -55,8 +54,8 @@ request_bits s = requests_value s % 8
 -- levels between them, however split into runs and holds; what else is in them, queries too, and whose SPI is in which
 -- state, is free
 pub record Alike (d e : Device) (s t : List ℕ) (cs ds : List Call) : Type 0 where
-  pub first : decode_of s ≡ Accepted d
-  pub second : decode_of t ≡ Accepted e
+  pub first : decode_of s ≡ Ok d
+  pub second : decode_of t ≡ Ok e
   pub one : d.usart ≡ e.usart
   pub bytes : Bytes cs
   pub bytes_too : Bytes ds

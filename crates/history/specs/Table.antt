@@ -1,7 +1,7 @@
 -- The table of numbers, document 01's and what document 02 adds: for each number its condition, by itself, and for each
 -- exported call its numbers in the order given there, of which the first whose condition holds is the answer, else 0.
 -- The record is any bytes; the last four calls take none.
-use Rattle.std.specs.Prelude.{ℕ, ◌/◌, ◌<◌, Bool, true, false, not, ◌&&◌, ◌||◌, List, [], ◌∷◌, ◌≡◌, eqb, ltb, length}
+use Rattle.std.specs.Prelude.{ℕ, ◌/◌, ◌<◌, Bool, true, false, not, ◌&&◌, ◌||◌, List, [], ◌∷◌, ◌≡◌, eqb, ltb, length, Err, None, Ok, Option, Result, Some}
 use Rattle.std.proofs.Math.Pow.{are_bytes}
 use Rattle.choice.specs.Pick.{pick}
 use Rattle.usart.specs.Unit.{txc_requested}
@@ -9,36 +9,33 @@ use Rattle.usart.specs.Refusing.{is_reserved, is_unmodelled, is_under_way as is_
 use Rattle.spi.specs.Unit.{is_requested}
 use Rattle.spi.specs.Refusing.{is_under_way as is_transfer_under_way}
 use Rattle.device.specs.Address.{place_of}
-use Rattle.device.specs.declared.address.Place.{Place}
-use Rattle.device.specs.declared.address.Place.TheVariants.{Serial, Spi, Nowhere}
 use Rattle.device.specs.Unit.{reset_device}
 use Rattle.device.specs.declared.unit.Device.{Device}
-use Rattle.trace.specs.Contents.{contents_of}
+use Rattle.trace.specs.Contents.{Check, contents_of}
 use Rattle.trace.specs.Listing.{list_of, listing_of}
 use Rattle.trace.specs.Meaning.{IsText}
 use Rattle.trace.specs.Shrinking.{shrunk_text}
 use Rattle.trace.specs.Text.{AllInRange, text_of}
 use Rattle.trace.specs.declared.item.Item.{Item}
-use Rattle.trace.specs.declared.text.Check.{Check}
-use Rattle.trace.specs.declared.text.Check.TheVariants.{WellFormed, Malformed}
 use Rattle.playback.specs.Replay.{step_of}
 use Rattle.record.specs.Layout.{record_length}
 use Rattle.record.specs.Codec.{decode_of}
 use Rattle.record.specs.Refusing.{NoRecord}
-use Rattle.record.specs.declared.codec.Decoded.{Decoded}
-use Rattle.record.specs.declared.codec.Decoded.TheVariants.{Accepted, Refused}
 use Rattle.warpmagpie.specs.Calls.{reset_answer, write_answer, read_answer, vector_answer, run_answer, requests_answer, split_votes_answer}
 use Rattle.holding.specs.Hold.{hold_answer}
 use Rattle.tracing.specs.Replay.{replay_answer}
 use Rattle.recording.specs.Calls.{trace_write_answer, trace_shrink_answer}
 use Rattle.warpmagpie.specs.Baud.{plan_answer, check_answer}
 use Rattle.history.specs.Call.{device_of}
+use Rattle.answer.specs.declared.Refusal.{Refusal}
+use Rattle.device.specs.declared.address.Place.{Place}
+use Rattle.device.specs.declared.address.Place.TheVariants.{Serial, Spi}
 
 -- 5: record not 64 bytes, a field out of its range (also against the format), or an unused byte not zero. As a test it
 -- is that the record is no device's; `Numbers` has it by itself
-abbrev pub is_no_device : Decoded → Bool
-is_no_device (Accepted d) = false
-is_no_device Refused = true
+abbrev pub is_no_device : Result Device Refusal → Bool
+is_no_device (Ok d) = false
+is_no_device (Err _) = true
 
 abbrev pub is_no_record : List ℕ → Bool
 is_no_record s = is_no_device (decode_of s)
@@ -48,10 +45,10 @@ abbrev pub is_wrong_length : List ℕ → Bool
 is_wrong_length s = not (eqb (length s) record_length)
 
 -- 1: no such register address
-abbrev pub is_no_place : Place → Bool
-is_no_place (Serial r) = false
-is_no_place (Spi r) = false
-is_no_place Nowhere = true
+abbrev pub is_no_place : Option Place → Bool
+is_no_place (Some (Serial r)) = false
+is_no_place (Some (Spi r)) = false
+is_no_place None = true
 
 abbrev pub is_nowhere : ℕ → Bool
 is_nowhere a = is_no_place (place_of a)
@@ -61,22 +58,22 @@ abbrev pub is_no_vector : ℕ → Bool
 is_no_vector n = not (eqb n 0) && not (eqb n 1)
 
 -- 2: reserved setting, of a serial register alone
-abbrev pub reserved_at : Device → Place → ℕ → Bool
-reserved_at d (Serial r) v = is_reserved d.usart r v
-reserved_at d (Spi r) v = false
-reserved_at d Nowhere v = false
+abbrev pub reserved_at : Device → Option Place → ℕ → Bool
+reserved_at d (Some (Serial r)) v = is_reserved d.usart r v
+reserved_at d (Some (Spi r)) v = false
+reserved_at d None v = false
 
 -- 3: mode not modelled, of a serial register alone
-abbrev pub unmodelled_at : Device → Place → ℕ → Bool
-unmodelled_at d (Serial r) v = is_unmodelled d.usart r v
-unmodelled_at d (Spi r) v = false
-unmodelled_at d Nowhere v = false
+abbrev pub unmodelled_at : Device → Option Place → ℕ → Bool
+unmodelled_at d (Some (Serial r)) v = is_unmodelled d.usart r v
+unmodelled_at d (Some (Spi r)) v = false
+unmodelled_at d None v = false
 
 -- 4: setting changed while a frame or transfer is under way
-abbrev pub under_way_at : Device → Place → ℕ → Bool
-under_way_at d (Serial r) v = is_frame_under_way d.usart r v
-under_way_at d (Spi r) v = is_transfer_under_way d.spi r v
-under_way_at d Nowhere v = false
+abbrev pub under_way_at : Device → Option Place → ℕ → Bool
+under_way_at d (Some (Serial r)) v = is_frame_under_way d.usart r v
+under_way_at d (Some (Spi r)) v = is_transfer_under_way d.spi r v
+under_way_at d None v = false
 
 -- 6: output slice not as long as the level slice
 abbrev pub are_uneven : List ℕ → List ℕ → Bool
@@ -96,8 +93,8 @@ is_unrequested d n = eqb n 0 && not (txc_requested d.usart) || eqb n 1 && not (i
 
 -- 9: text malformed (document 02, M-100). As a test it is that some line is; `Numbers` has it by itself
 abbrev pub is_bad : Check → Bool
-is_bad WellFormed = false
-is_bad (Malformed line) = true
+is_bad (Ok tt) = false
+is_bad (Err bad) = true
 
 abbrev pub is_malformed : List ℕ → Bool
 is_malformed text = is_bad (contents_of text).check
