@@ -2,7 +2,7 @@
 use mathlib.Core.Path.{◌≡◌, refl}
 use mathlib.Core.Bool.{true, false}
 use mathlib.Core.List.{[], ◌∷◌}
-use Rattle.baud.specs.declared.argument.Number.TheVariants.{Value, Nothing}
+use Rattle.std.proofs.Common.{Some, None}
 use Rattle.baud.specs.declared.setting.Setting.{Setting}
 use Rattle.baud.specs.declared.advice.Advice.TheVariants.{MoreLengths}
 use Rattle.baud.specs.Decimal.{number_in, are_digits, worth_after}
@@ -11,33 +11,33 @@ use Rattle.baud.specs.Length.{lengths_within, is_within_at}
 use Rattle.baud.specs.Advice.{advice_of, decided}
 
 -- 115200, and 007
-number : number_in (49 ∷ 49 ∷ 53 ∷ 50 ∷ 48 ∷ 48 ∷ []) ≡ Value 115200
+number : number_in (49 ∷ 49 ∷ 53 ∷ 50 ∷ 48 ∷ 48 ∷ []) ≡ Some 115200
 unfolding are_digits worth_after
 number = refl
 
-zeros : number_in (48 ∷ 48 ∷ 55 ∷ []) ≡ Value 7
+zeros : number_in (48 ∷ 48 ∷ 55 ∷ []) ≡ Some 7
 unfolding are_digits worth_after
 zeros = refl
 
 -- 4294967295 is the last, 4294967296 too large
-last : number_in (52 ∷ 50 ∷ 57 ∷ 52 ∷ 57 ∷ 54 ∷ 55 ∷ 50 ∷ 57 ∷ 53 ∷ []) ≡ Value 4294967295
+last : number_in (52 ∷ 50 ∷ 57 ∷ 52 ∷ 57 ∷ 54 ∷ 55 ∷ 50 ∷ 57 ∷ 53 ∷ []) ≡ Some 4294967295
 unfolding are_digits worth_after
 last = refl
 
-large : number_in (52 ∷ 50 ∷ 57 ∷ 52 ∷ 57 ∷ 54 ∷ 55 ∷ 50 ∷ 57 ∷ 54 ∷ []) ≡ Nothing
+large : number_in (52 ∷ 50 ∷ 57 ∷ 52 ∷ 57 ∷ 54 ∷ 55 ∷ 50 ∷ 57 ∷ 54 ∷ []) ≡ None
 unfolding are_digits worth_after
 large = refl
 
 -- +1, 1a, and no byte at all
-plus : number_in (43 ∷ 49 ∷ []) ≡ Nothing
+plus : number_in (43 ∷ 49 ∷ []) ≡ None
 unfolding are_digits worth_after
 plus = refl
 
-letter : number_in (49 ∷ 97 ∷ []) ≡ Nothing
+letter : number_in (49 ∷ 97 ∷ []) ≡ None
 unfolding are_digits worth_after
 letter = refl
 
-empty : number_in [] ≡ Nothing
+empty : number_in [] ≡ None
 empty = refl
 
 -- 16 MHz, 115,200: UBRR 8 at normal speed, 16 at double

@@ -2,11 +2,9 @@
 use mathlib.Core.Path.{◌≡◌}
 use mathlib.Core.Bool.{true}
 use mathlib.Core.Logic.{◌↔◌}
-use Prim.Native.Nat.{ℕ, ◌≤◌, ◌<◌}
+use Prim.Native.Nat.{ℕ}
 use native.Mathlib.Omega.{arith}
 use borrow.Author.Tests.{leb-true, leb-false}
-use mir.Syntax.{w32}
-use mir.Val.{Fits}
 use Rattle.choice.proofs.Picks.{split}
 use Rattle.usart.specs.Limit.{limit, Within}
 use Rattle.baud.specs.declared.setting.Setting.{Setting}
@@ -23,10 +21,3 @@ pub within-exactly : (clock rate : ℕ) (s : Setting) (D : ℕ)
     → (is_within_at clock rate s D ≡ true) ↔ Within (limit s.u2x D) (total_of s rate) clock
 unfolding is_within_at
 within-exactly clock rate s D = exactly (limit s.u2x D) (total_of s rate) clock
-
--- by the widths that the code has
-pub limit-most : {n : ℕ} → n < 256 → n ≤ 255
-limit-most h = omega arith
-
-pub clock-most : (n : ℕ) → Fits w32 n → n ≤ 4294967295
-clock-most n f = omega (arith, f.fits)

@@ -5,7 +5,18 @@ use Rattle.choice.specs.Pick.{digit}
 use Rattle.planner.specs.Setting.{distance}
 use Rattle.usart.specs.Limit.{limit}
 use Rattle.baud.specs.declared.setting.Setting.{Setting}
+use Rattle.baud.specs.declared.length.FrameLength.{FrameLength}
+use Rattle.baud.specs.declared.length.FrameLength.TheVariants.{Five, Six, Seven, Eight, Nine, Ten}
 use Rattle.baud.specs.Setting.{total_of}
+
+-- D
+abbrev pub bits_of : FrameLength → ℕ
+bits_of Five = 5
+bits_of Six = 6
+bits_of Seven = 7
+bits_of Eight = 8
+bits_of Nine = 9
+bits_of Ten = 10
 
 -- 'within limit r when |N − P|·1000 ≤ r·P'
 abbrev pub is_within : ℕ → ℕ → ℕ → Bool

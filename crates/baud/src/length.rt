@@ -1,72 +1,90 @@
-// The recommended limit of the rate error at a frame length D, data bits plus parity bit.
-ghost use Rattle.std.specs.Prelude.{◌≡◌, ◌+◌, ◌≤◌};
-ghost use Rattle.frame.specs.Format.{data_bits, parity_bits, word_bits};
-ghost use Rattle.usart.specs.Limit.{limit};
-ghost use Rattle.baud.specs.Length.{is_within_at, lengths_within};
+// The recommended limit of the rate error at a frame length.
+ghost use Rattle.std.specs.Prelude.{◌≡◌, count_by};
+ghost use Rattle.frame.specs.Format.{word_bits};
+ghost use Rattle.baud.specs.Length.{bits_of, is_within_at, lengths_within};
 
-use crate::arithmetic::distance;
 use crate::setting::Setting;
-use choice::digit;
+use crate::target::Target;
 use frame::{Format, Parity, Size};
 
-fn format(size: Size, parity: Parity, u2x: bool) -> Format
-    ensures result_value { word_bits result ≡ data_bits size + parity_bits parity }
-    ensures u2x_value { result.u2x ≡ u2x }
-{
-    Format {
-        size: size,
-        parity: parity,
-        usbs: false,
-        u2x: u2x,
-    }
+// D: data bits plus parity bit.
+#[derive(Clone, Copy)]
+pub(crate) enum FrameLength {
+    Five,
+    Six,
+    Seven,
+    Eight,
+    Nine,
+    Ten,
 }
 
-// A format whose frames have D data and parity bits.
-fn format_of(d: u8, u2x: bool) -> Format
-    requires le_d { 5 ≤ d }
-    requires d_bound { d ≤ 10 }
-    ensures result_value { word_bits result ≡ d }
-    ensures u2x_value { result.u2x ≡ u2x }
-{
-    match d {
-        5 => format(Size::Five, Parity::Off, u2x),
-        6 => format(Size::Six, Parity::Off, u2x),
-        7 => format(Size::Seven, Parity::Off, u2x),
-        8 => format(Size::Eight, Parity::Off, u2x),
-        9 => format(Size::Nine, Parity::Off, u2x),
-        _ => format(Size::Nine, Parity::Even, u2x),
-    }
-}
+impl FrameLength {
+    pub(crate) const ALL: [FrameLength; 6] = [
+        FrameLength::Five,
+        FrameLength::Six,
+        FrameLength::Seven,
+        FrameLength::Eight,
+        FrameLength::Nine,
+        FrameLength::Ten,
+    ];
 
-fn limit_at(d: u8, u2x: bool) -> u8
-    requires le_d { 5 ≤ d }
-    requires d_bound { d ≤ 10 }
-    ensures { result ≡ limit u2x d }
-{
-    usart::rate_limit(format_of(d, u2x))
+    // What heads its column in the table.
+    pub(crate) fn head(self) -> &'static str {
+        match self {
+            FrameLength::Five => "D=5",
+            FrameLength::Six => "D=6",
+            FrameLength::Seven => "D=7",
+            FrameLength::Eight => "D=8",
+            FrameLength::Nine => "D=9",
+            FrameLength::Ten => "D=10",
+        }
+    }
+
+    // A format whose frames are so long.
+    fn format(self, u2x: bool) -> Format
+        ensures result_value { word_bits result ≡ bits_of self }
+        ensures u2x_value { result.u2x ≡ u2x }
+    {
+        let (size, parity) = match self {
+            FrameLength::Five => (Size::Five, Parity::Off),
+            FrameLength::Six => (Size::Six, Parity::Off),
+            FrameLength::Seven => (Size::Seven, Parity::Off),
+            FrameLength::Eight => (Size::Eight, Parity::Off),
+            FrameLength::Nine => (Size::Nine, Parity::Off),
+            FrameLength::Ten => (Size::Nine, Parity::Even),
+        };
+        Format {
+            size,
+            parity,
+            usbs: false,
+            u2x,
+        }
+    }
 }
 
 // Whether a receiver with this setting is within the limit at D, against a sender that keeps the rate exactly.
-pub(crate) fn is_within(clock: u32, rate: u32, s: Setting, d: u8) -> bool
-    requires le_d { 5 ≤ d }
-    requires d_bound { d ≤ 10 }
-    ensures { result ≡ is_within_at clock rate s d }
+#[tactic(auto, unfolding(crate::specs::Length::is_within_at))]
+pub(crate) fn is_within(target: Target, s: Setting, length: FrameLength) -> bool
+    ensures { result ≡ is_within_at target.clock target.rate s (bits_of length) }
 {
-    let most = limit_at(d, s.u2x);
-    let t = s.total(rate);
-    let off = distance(t, clock as u64);
-    off * 1000 <= most as u64 * clock as u64
+    let most = usart::rate_limit(length.format(s.u2x));
+    let t = s.total(target.rate);
+    let off = t.abs_diff(target.clock as u64);
+    off * 1000 <= most as u64 * target.clock as u64
 }
 
-// At how many of the frame lengths from 5 to 10.
-pub(crate) fn lengths_within(clock: u32, rate: u32, s: Setting) -> u8
-    ensures { result ≡ lengths_within clock rate s }
+fn count_within(target: Target, s: Setting, lengths: &[FrameLength]) -> usize
+    ensures { result ≡ count_by (λ length. is_within_at target.clock target.rate s (bits_of length)) lengths.now }
 {
-    let five = digit(is_within(clock, rate, s, 5));
-    let six = digit(is_within(clock, rate, s, 6));
-    let seven = digit(is_within(clock, rate, s, 7));
-    let eight = digit(is_within(clock, rate, s, 8));
-    let nine = digit(is_within(clock, rate, s, 9));
-    let ten = digit(is_within(clock, rate, s, 10));
-    five + six + seven + eight + nine + ten
+    lengths
+        .iter()
+        .filter(|&&length| is_within(target, s, length))
+        .count()
+}
+
+// At how many of the frame lengths.
+pub(crate) fn lengths_within(target: Target, s: Setting) -> u8
+    ensures { result ≡ lengths_within target.clock target.rate s }
+{
+    count_within(target, s, &FrameLength::ALL) as u8
 }

@@ -3,38 +3,34 @@
 
 mod advice;
 mod argument;
-mod arithmetic;
-mod column;
 mod error;
 mod length;
 mod rate;
 mod report;
 mod setting;
 mod table;
+mod target;
 
-use argument::{Number, argument, is_given};
-use column::Output;
+use argument::{argument, is_given};
+use report::Report;
+use std::env::Env;
 use std::io;
 
-fn usage(rt: &impl Eprint) -> io::Result<()> {
-    eprintln!(rt;
-        "usage: baud CLOCK RATE, in decimal digits: CLOCK 1 to 20000000 Hz, RATE 1 to 2500000 baud"
-    )
+// What is to be shown, where there are two arguments and both are numbers in range.
+fn asked(rt: &impl Env) -> Option<Report> {
+    if is_given(rt, 3) {
+        return None;
+    }
+    let clock = argument(rt, 1)?;
+    let rate = argument(rt, 2)?;
+    Report::new(clock, rate).ok()
 }
 
 fn main(rt: HostRuntime) -> io::Result<()> {
-    if is_given(&rt, 3) {
-        return usage(&rt);
+    match asked(&rt) {
+        Some(report) => report.show(&rt),
+        None => eprintln!(rt;
+            "usage: baud CLOCK RATE, in decimal digits: CLOCK 1 to 20000000 Hz, RATE 1 to 2500000 baud"
+        ),
     }
-    let Number::Value(clock) = argument(&rt, 1) else {
-        return usage(&rt);
-    };
-    let Number::Value(rate) = argument(&rt, 2) else {
-        return usage(&rt);
-    };
-    let mut out = Output::new(rt.stdout());
-    if !report::reported(&mut out, clock, rate) {
-        return usage(&rt);
-    }
-    out.finish()
 }

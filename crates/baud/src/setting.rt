@@ -1,13 +1,16 @@
 ghost use Rattle.std.specs.Prelude.{◌≡◌, ◌≤◌, ◌*◌};
 ghost use Rattle.baud.specs.Setting.{divisor_of, total_of};
 
-use choice::digit;
-
 // A setting of the baud clock: the speed, and UBRR.
 #[derive(Clone, Copy)]
 pub(crate) struct Setting {
     pub u2x: bool,
     pub ubrr: u16,
+}
+
+// What a speed is called.
+pub(crate) fn speed(u2x: bool) -> &'static str {
+    if u2x { "double" } else { "normal" }
 }
 
 impl Setting {
@@ -17,7 +20,7 @@ impl Setting {
         ensures lower_bound { 8 ≤ result }
         ensures upper_bound { result ≤ 1048576 }
     {
-        planner::divisor(digit(self.u2x), self.ubrr)
+        planner::divisor(u8::from(self.u2x), self.ubrr)
     }
 
     // T: clocks a bit times the rate.

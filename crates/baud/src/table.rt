@@ -1,10 +1,10 @@
 // The table: a row for each speed.
-use crate::column::{Output, decimal, hex_byte, text, thousandths, words, yes_or_no};
-use crate::error;
-use crate::length::is_within;
+use crate::error::{self, WIDTH as ERROR};
+use crate::length::{FrameLength, is_within};
 use crate::rate::real_rate;
-use crate::setting::Setting;
-use choice::digit;
+use crate::setting::{Setting, speed};
+use crate::target::Target;
+use std::io;
 
 // The columns' widths: the longest content of each, and two spaces.
 const U2X0: usize = 6;
@@ -18,48 +18,42 @@ const RATE: usize = 13;
 
 const LENGTH: usize = 6;
 
-pub(crate) fn heads(out: &mut Output) {
-    text(out, b"speed ");
-    words(out, U2X0, b"U2X0");
-    words(out, UBRR, b"UBRR");
-    words(out, UBRR0, b"UBRR0H");
-    words(out, UBRR0, b"UBRR0L");
-    words(out, RATE, b"real rate");
-    words(out, error::WIDTH, b"error");
-    words(out, LENGTH, b"D=5");
-    words(out, LENGTH, b"D=6");
-    words(out, LENGTH, b"D=7");
-    words(out, LENGTH, b"D=8");
-    words(out, LENGTH, b"D=9");
-    words(out, LENGTH, b"D=10");
-    text(out, b"\n");
-}
-
-pub(crate) fn speed(out: &mut Output, u2x: bool) {
-    if u2x {
-        text(out, b"double");
-    } else {
-        text(out, b"normal");
+pub(crate) fn heads(rt: &impl Print) -> io::Result<()> {
+    print!(rt;
+        "speed {:>U2X0$}{:>UBRR$}{:>UBRR0$}{:>UBRR0$}",
+        "U2X0", "UBRR", "UBRR0H", "UBRR0L"
+    )?;
+    print!(rt; "{:>RATE$}{:>ERROR$}", "real rate", "error")?;
+    for length in FrameLength::ALL {
+        print!(rt; "{:>LENGTH$}", length.head())?;
     }
+    println!(rt)
 }
 
-fn lengths(out: &mut Output, clock: u32, rate: u32, s: Setting) {
-    let mut d = 5;
-    while d < 11 {
-        yes_or_no(out, LENGTH, is_within(clock, rate, s, d));
-        d += 1;
+fn lengths(rt: &impl Print, target: Target, s: Setting) -> io::Result<()> {
+    for length in FrameLength::ALL {
+        let answer = if is_within(target, s, length) {
+            "yes"
+        } else {
+            "no"
+        };
+        print!(rt; "{answer:>LENGTH$}")?;
     }
+    println!(rt)
 }
 
-pub(crate) fn row(out: &mut Output, clock: u32, rate: u32, s: Setting, tenths: i32) {
-    let ubrr = s.ubrr as u64;
-    speed(out, s.u2x);
-    decimal(out, U2X0, digit(s.u2x) as u64);
-    decimal(out, UBRR, ubrr);
-    hex_byte(out, UBRR0, ubrr / 256);
-    hex_byte(out, UBRR0, ubrr % 256);
-    thousandths(out, RATE - 4, real_rate(clock, s));
-    error::percent(out, tenths);
-    lengths(out, clock, rate, s);
-    text(out, b"\n");
+pub(crate) fn row(rt: &impl Print, target: Target, s: Setting, tenths: i32) -> io::Result<()> {
+    print!(rt;
+        "{}{:>U2X0$}{:>UBRR$}",
+        speed(s.u2x),
+        u8::from(s.u2x),
+        s.ubrr
+    )?;
+    for byte in s.ubrr.to_be_bytes() {
+        print!(rt; "{:>1$}{byte:02x}", "0x", UBRR0 - 2)?;
+    }
+    let rate = real_rate(target.clock, s);
+    print!(rt; "{:>1$}.{2:03}", rate / 1000, RATE - 4, rate % 1000)?;
+    error::percent(rt, tenths)?;
+    lengths(rt, target, s)
 }

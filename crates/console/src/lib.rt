@@ -19,6 +19,7 @@ fn read_full(file: &mut impl Read, text: &mut [u8]) -> usize
     ensures { IsPrefixLen result text.new }
 {
     let mut done = 0;
+    // By hand: `read_exact` doesn't say how much is there where the input ends early.
     while done < text.len() {
         match file.read(&mut text[done..]) {
             Ok(0) => break,
@@ -30,7 +31,7 @@ fn read_full(file: &mut impl Read, text: &mut [u8]) -> usize
 }
 
 // As many bytes of the file that argument 1 names as there is room for; none of one that can't be read, as where its
-// name is not UTF-8.
+// name is not UTF-8. Memory is fixed, and this never fails: callers keep a buffer beside the length that is answered.
 pub fn read_file<R: Env + Files>(rt: &R, text: &mut [u8]) -> usize
     ensures { IsPrefixLen result text.new }
 {

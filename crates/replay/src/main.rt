@@ -3,14 +3,15 @@
 #![tactic(auto)]
 
 use console::{MOST, read_file};
-use playback::Outcome;
+use playback::Stopped;
 use std::io;
 
-fn print_outcome(rt: &impl Print, outcome: Outcome) -> io::Result<()> {
+fn print_outcome(rt: &impl Print, outcome: Result<(), Stopped>) -> io::Result<()> {
     match outcome {
-        Outcome::Done => println!(rt; "ok"),
-        Outcome::Refused(r, line) => {
-            let number = r.number();
+        Ok(()) => println!(rt; "ok"),
+        Err(stopped) => {
+            let number = stopped.why.number();
+            let line = stopped.line;
             println!(rt; "{number}\t{line}")
         }
     }
@@ -22,7 +23,5 @@ fn main(rt: HostRuntime) -> io::Result<()> {
     if n > MOST {
         return println!(rt; "long");
     }
-    let got = playback::replay(&text[..n]);
-    let outcome = got.outcome;
-    print_outcome(&rt, outcome)
+    print_outcome(&rt, playback::replay(&text[..n]).outcome)
 }

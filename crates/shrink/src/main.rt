@@ -3,28 +3,20 @@
 // No trace comes out longer than it went in, so there is always room.
 #![tactic(auto)]
 
-ghost use Rattle.std.specs.Prelude.{◌≤◌, length};
-
 use console::{MOST, read_file};
 use std::io;
-use trace::Filled;
-
-fn print_start(rt: &impl Print, bytes: &[u8], n: usize) -> io::Result<()>
-    requires { n ≤ length bytes.now }
-{
-    rt.write_all(&bytes[..n])
-}
 
 fn print_shrunk(rt: &impl Print, text: &[u8], buffer: &mut [u8]) -> io::Result<()> {
     match trace::shrink(text, buffer) {
-        Filled::Text(n) => print_start(rt, buffer, n),
-        Filled::Refused(r) => {
-            let number = r.number();
+        Ok(n) => rt.write_all(&buffer[..n]),
+        Err(refusal) => {
+            let number = refusal.number();
             println!(rt; "{number}")
         }
     }
 }
 
+// The first lines are as in `replay`: one function for both would take what follows as a closure over the handle.
 fn main(rt: HostRuntime) -> io::Result<()> {
     let mut text = [0u8; MOST + 1];
     let n = read_file(&rt, &mut text);
