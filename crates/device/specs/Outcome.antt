@@ -1,14 +1,12 @@
 -- What a call comes to, and its number (document 01, 'Numbers the rig sees').
 use Rattle.std.specs.Prelude.{ℕ, Err, Ok, Result}
-use Rattle.answer.specs.Number.{number_of}
+use Rattle.answer.specs.Number.{number_in}
 use Rattle.device.specs.declared.unit.Device.{Device}
 use Rattle.answer.specs.declared.Refusal.{Refusal}
 use Rattle.answer.specs.declared.Reading.{Reading}
 
--- 0: done
 abbrev pub answer_of : Result Device Refusal → ℕ
-answer_of (Ok d) = 0
-answer_of (Err r) = number_of r
+answer_of w = number_in w
 
 -- a refusal leaves the device as it was
 abbrev pub settled : Device → Result Device Refusal → Device
@@ -16,8 +14,7 @@ settled d (Ok e) = e
 settled d (Err r) = d
 
 abbrev pub read_answer_of : Result (Reading Device) Refusal → ℕ
-read_answer_of (Ok g) = 0
-read_answer_of (Err r) = number_of r
+read_answer_of g = number_in g
 
 -- a refused read answers 0
 abbrev pub value_of : Result (Reading Device) Refusal → ℕ

@@ -13,7 +13,7 @@ use Rattle.usart.specs.Read.{split_votes as serial_split_votes, read_of as seria
 use Rattle.usart.specs.Sending.{outputs_of as outputs_at}
 use Rattle.usart.specs.Unit.{clock_of, output_of, requests_of as serial_requests, reset_usart}
 use Rattle.usart.specs.Write.{write_of as serial_write_of, vector_of as serial_vector_of}
-use Rattle.usart.specs.Refusing.{number_in}
+use Rattle.answer.specs.Number.{number_in}
 use Rattle.usart.specs.declared.unit.Usart.{Usart}
 use Rattle.spi.specs.Register.{vector_of as spi_vector_of}
 use Rattle.device.specs.Address.{place_of}

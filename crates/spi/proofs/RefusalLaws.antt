@@ -10,7 +10,8 @@ use Rattle.spi.specs.Transfer.{is_under_way as is_transferring}
 use Rattle.spi.specs.Means.{differs}
 use Rattle.spi.specs.Unit.{is_requested}
 use Rattle.spi.specs.Register.{write_spcr, write_spsr, write_of, vector_of}
-use Rattle.spi.specs.Refusing.{number_in, is_under_way}
+use Rattle.answer.specs.Number.{number_in}
+use Rattle.spi.specs.Refusing.{is_under_way}
 use Rattle.spi.specs.declared.unit.Spi.{Spi}
 use Rattle.spi.specs.declared.register.Register.{Register}
 use Rattle.spi.specs.declared.register.Register.TheVariants.{Spcr, Spsr, Spdr, Ddrb}

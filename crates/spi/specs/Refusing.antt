@@ -1,19 +1,12 @@
 -- What a write of an SPI register is refused for (document 01, 'Numbers the rig sees' and 'Registers and their
 -- writes'): 4 alone.
-use Rattle.std.specs.Prelude.{ℕ, ◌%◌, Bool, false, not, ◌&&◌, eqb, Err, Ok, Result}
+use Rattle.std.specs.Prelude.{ℕ, ◌%◌, Bool, false, not, ◌&&◌, eqb}
 use Rattle.choice.specs.Bit.{is_set}
 use Rattle.spi.specs.Means.{differs}
 use Rattle.spi.specs.Transfer.{is_under_way as is_transferring}
-use Rattle.answer.specs.Number.{number_of}
 use Rattle.spi.specs.declared.unit.Spi.{Spi}
 use Rattle.spi.specs.declared.register.Register.{Register}
 use Rattle.spi.specs.declared.register.Register.TheVariants.{Spcr, Spsr, Spdr, Ddrb}
-use Rattle.answer.specs.declared.Refusal.{Refusal}
-
--- 0: done
-abbrev pub number_in : Result Spi Refusal → ℕ
-number_in (Ok s) = 0
-number_in (Err r) = number_of r
 
 -- a write of SPCR with SPE not cleared and a change in bits 5 to 0; of SPSR, with SPI2X (bit 0) changed
 abbrev pub changes : Spi → Register → ℕ → Bool

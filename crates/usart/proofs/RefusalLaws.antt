@@ -7,7 +7,7 @@ use native.Mathlib.Omega.{arith}
 use lib.Dec.{eqb, leb}
 use borrow.Author.Tests.{eq-eqb, ne_eqb, eqb-true, eqb-false, leb-true, leb-false}
 use Rattle.std.proofs.Common.{Err, None, Ok, Option, Result, Some}
-use Rattle.answer.specs.Number.{number_of}
+use Rattle.answer.specs.Number.{number_of, number_in}
 use Rattle.answer.specs.declared.Refusal.{Refusal}
 use Rattle.answer.specs.declared.Refusal.TheVariants.{Reserved, Unmodelled, UnderWay, Unrequested}
 use Rattle.choice.specs.Bit.{is_set}
@@ -20,7 +20,7 @@ use Rattle.usart.specs.Unit.{is_busy, txc_requested}
 use Rattle.usart.specs.Settings.{code_of, size_of, is_known, upm_of, settings_of}
 use Rattle.usart.specs.Write.{with_baud, formatted_of, txc_cleared, with_u2x, write_a, controlled, with_size, coded_b}
 use Rattle.usart.specs.Write.{is_reserved_c, format_in, sized_c, coded_c, write_c, timed_of, write_h, write_of, vector_of}
-use Rattle.usart.specs.Refusing.{number_in, is_reserved, is_unmodelled, changes, is_under_way}
+use Rattle.usart.specs.Refusing.{is_reserved, is_unmodelled, changes, is_under_way}
 use Rattle.usart.specs.declared.baud.Baud.{Baud}
 use Rattle.usart.specs.declared.unit.Usart.{Usart}
 use Rattle.usart.specs.declared.write.Register.{Register}

@@ -1,20 +1,13 @@
 -- What a write of a serial register is refused for: for each number its condition, by itself (document 01, 'Numbers the
 -- rig sees' and 'Registers and their writes'). The lowest place in the order 2, 3, 4 wins; a number's condition does
 -- not look at the others.
-use Rattle.std.specs.Prelude.{ℕ, ◌+◌, ◌*◌, ◌/◌, ◌%◌, Bool, true, false, not, ◌&&◌, ◌||◌, eqb, Err, Ok, Result}
-use Rattle.answer.specs.Number.{number_of}
+use Rattle.std.specs.Prelude.{ℕ, ◌+◌, ◌*◌, ◌/◌, ◌%◌, Bool, true, false, not, ◌&&◌, ◌||◌, eqb}
 use Rattle.choice.specs.Pick.{digit}
 use Rattle.usart.specs.Unit.{is_busy}
 use Rattle.usart.specs.Settings.{code_of, size_of, is_known, upm_of}
 use Rattle.usart.specs.declared.unit.Usart.{Usart}
 use Rattle.usart.specs.declared.write.Register.{Register}
 use Rattle.usart.specs.declared.write.Register.TheVariants.{Ucsr0a, Ucsr0b, Ucsr0c, Ubrr0l, Ubrr0h, Udr0}
-use Rattle.answer.specs.declared.Refusal.{Refusal}
-
--- 0: done
-abbrev pub number_in : Result Usart Refusal → ℕ
-number_in (Ok u) = 0
-number_in (Err r) = number_of r
 
 abbrev pub is_size : ℕ → Bool
 is_size n = is_known (size_of n)
