@@ -2,9 +2,10 @@
 // count many are taken at once. It knows nothing of what a step is: a clock, a tick.
 #![tactic(auto)]
 
-ghost use Rattle.std.specs.Prelude.{◌≡◌, ◌≤◌, true};
+ghost use Rattle.std.specs.Prelude.{◌≡◌, ◌≤◌, true, Bool, ℕ, Option};
 ghost use Rattle.choice.specs.Times.{times};
 ghost use Rattle.advance.specs.Passing.{CountedOn};
+ghost use Rattle.advance.specs.declared.Passed.{Passed};
 
 // A state after some steps, and how many they were, by a count of the steps' own kind.
 #[derive(Clone, Copy)]
@@ -17,16 +18,22 @@ pub struct Passed<S, N> {
 pub trait Steps: Copy {
     ghost step: { Self → Self };
 
-    // Whether a step changes nothing; false may be answered of any state.
+    // Where a step is known to change nothing; false may stand of any state.
+    ghost at_rest: { Self → Bool };
+
+    // As many of n steps as only count, taken at once, and the state after them; none may stand of any state.
+    ghost at_once: { Self → ℕ → Option (Passed Self ℕ) };
+
     fn rests(self) -> bool
-        ensures { result ≡ true → step self ≡ self };
+        ensures value { result ≡ at_rest self }
+        ensures stays { result ≡ true → step self ≡ self };
 
     fn stepped(self) -> Self
         ensures { result ≡ step self };
 
-    // As many of n steps as only count, taken at once; none may be answered of any state.
     fn counted(self, n: usize) -> Option<Passed<Self, usize>>
-        ensures { CountedOn step self n result };
+        ensures value { result ≡ at_once self n }
+        ensures steps { CountedOn step self n result };
 }
 
 // n steps.

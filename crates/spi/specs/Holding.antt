@@ -1,7 +1,9 @@
 -- Means, not rules: one level of each pin held for many clocks, and the unit at rest, which such clocks leave as it is.
-use Rattle.std.specs.Prelude.{ℕ, ◌-◌, Bool, true, false, not, eqb}
+use Rattle.std.specs.Prelude.{ℕ, ◌-◌, Bool, true, false, not, eqb, ltb, Option, None}
 use Rattle.choice.specs.Pick.{pick}
 use Rattle.choice.specs.Times.{times}
+use Rattle.advance.specs.Passing.{taken}
+use Rattle.advance.specs.declared.Passed.{Passed}
 use Rattle.shifter.specs.Exchange.{first_out}
 use Rattle.spi.specs.Control.{is_enabled, is_master, mode_of, is_mode_fault}
 use Rattle.spi.specs.Means.{differs, with_left, with_sck}
@@ -59,3 +61,13 @@ with_spi h s = record { spi = s; levels = h.levels }
 -- .. and a step is a clock with them
 abbrev pub clocked : Held → Held
 clocked h = with_spi h (clock_of h.spi h.levels)
+
+-- at rest with the levels that are held
+abbrev pub rests_held : Held → Bool
+rests_held h = is_at_rest h.spi h.levels
+
+-- all the clocks that a master only counts, where n has room for them, taken at once
+abbrev pub counted_held : Held → ℕ → Option (Passed Held ℕ)
+counted_held h n =
+    let k : ℕ = waits_for h.spi h.levels.ss in
+    pick (ltb n k) None (taken (with_spi h (counted_of h.spi h.levels.sck k)) k)

@@ -2,7 +2,7 @@
 // many at once.
 ghost use Rattle.std.specs.Prelude.{◌≡◌, ◌≤◌};
 ghost use Rattle.spi.specs.Holding.{held_of, is_presented, slave_rests, master_rests, step_rests, is_at_rest};
-ghost use Rattle.spi.specs.Holding.{stays_master, waits_for, counted_of, clocked};
+ghost use Rattle.spi.specs.Holding.{stays_master, waits_for, counted_of, clocked, rests_held, counted_held};
 
 use crate::clock::Levels;
 use crate::unit::Spi;
@@ -106,6 +106,10 @@ impl Spi {
 
 impl Steps for Held {
     ghost step = { clocked };
+
+    ghost at_rest = { rests_held };
+
+    ghost at_once = { counted_held };
 
     #[tactic(auto, using(crate::proofs::HoldingLaws::holding))]
     fn rests(self) -> bool {

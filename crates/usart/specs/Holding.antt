@@ -1,13 +1,16 @@
 -- One level of RxD held for many clocks: `held_of`, as many single ones. All else here is a means, no rule: the parts of
 -- the unit after many clocks or ticks, and the unit at rest, which they leave as it is but for the baud counter.
-use Rattle.std.specs.Prelude.{ℕ, ◌+◌, ◌*◌, Bool, true, false, not}
+use Rattle.std.specs.Prelude.{ℕ, ◌+◌, ◌*◌, Bool, true, false, not, Option}
 use Rattle.choice.specs.Pick.{pick}
 use Rattle.choice.specs.Times.{times}
+use Rattle.advance.specs.Passing.{taken}
+use Rattle.advance.specs.declared.Passed.{Passed}
 use Rattle.frame.specs.declared.format.Format.{Format}
 use Rattle.usart.specs.Baud.{baud_of}
 use Rattle.usart.specs.Sender.{is_vacant, is_resting, sender_of}
 use Rattle.usart.specs.Receiver.{listened_of}
 use Rattle.usart.specs.Unit.{clock_of}
+use Rattle.usart.specs.Counting.{least, sender_quiet, receiver_quiet, counted_sender, counted_receiver}
 use Rattle.usart.specs.declared.baud.Baud.{Baud}
 use Rattle.usart.specs.declared.hold.Sending.{Sending}
 use Rattle.usart.specs.declared.hold.Listening.{Listening}
@@ -70,3 +73,20 @@ with_listening x r = record { receiver = r; rxen = x.rxen; format = x.format; rx
 
 abbrev pub listening_tick : Listening → Listening
 listening_tick x = with_listening x (listened_at x.rxen x.format x.rxd x.receiver)
+
+-- where each is at rest, and the ticks of n that only count, taken at once
+abbrev pub sending_rests : Sending → Bool
+sending_rests x = sender_rests x.sender
+
+abbrev pub sending_counted : Sending → ℕ → Option (Passed Sending ℕ)
+sending_counted x n =
+    let k : ℕ = least (sender_quiet x.format x.sender.buffer x.sender.shifter) n in
+    taken (with_sending x (counted_sender x.sender k)) k
+
+abbrev pub listening_rests : Listening → Bool
+listening_rests x = receiver_rests x.rxen x.receiver x.rxd
+
+abbrev pub listening_counted : Listening → ℕ → Option (Passed Listening ℕ)
+listening_counted x n =
+    let k : ℕ = least (receiver_quiet x.rxen x.format x.receiver) n in
+    taken (with_listening x (counted_receiver x.rxen x.receiver k)) k

@@ -3,6 +3,7 @@
 ghost use Rattle.std.specs.Prelude.{◌≡◌};
 ghost use Rattle.usart.specs.Holding.{held_of, held_sender, held_receiver, passed_baud, sending_tick, listening_tick};
 ghost use Rattle.usart.specs.Holding.{sender_rests, sampler_rests, receiver_rests};
+ghost use Rattle.usart.specs.Holding.{sending_rests, sending_counted, listening_rests, listening_counted};
 
 use crate::baud::{Baud, Clocks};
 use crate::receiver::Receiver;
@@ -74,6 +75,10 @@ impl Sender {
 impl Steps for Sending {
     ghost step = { sending_tick };
 
+    ghost at_rest = { sending_rests };
+
+    ghost at_once = { sending_counted };
+
     fn rests(self) -> bool {
         self.sender.rests()
     }
@@ -134,6 +139,10 @@ impl Receiver {
 
 impl Steps for Listening {
     ghost step = { listening_tick };
+
+    ghost at_rest = { listening_rests };
+
+    ghost at_once = { listening_counted };
 
     fn rests(self) -> bool {
         self.receiver.rests(self.rxen, self.rxd)
