@@ -19,3 +19,15 @@ lines_by (suc n) text at = with_line (line_at text at) (lines_by n text)
 -- from a place on; every line has a byte
 unfoldable pub lines_from : List ℕ → ℕ → List (Result Item NoItem)
 lines_from text at = lines_by (length text - at) text at
+
+-- what a reader gives of the line at its place ..
+abbrev pub item_in : Option (Result Line NoItem) → Option (Result Item NoItem)
+item_in None = None
+item_in (Some (Err e)) = Some (Err e)
+item_in (Some (Ok l)) = Some (Ok l.item)
+
+-- .. and its place then: behind the line, or at the text's end behind a malformed one
+abbrev pub place_after : List ℕ → ℕ → Option (Result Line NoItem) → ℕ
+place_after text at None = at
+place_after text at (Some (Err e)) = length text
+place_after text at (Some (Ok l)) = l.next

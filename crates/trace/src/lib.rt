@@ -17,7 +17,7 @@ mod writing;
 
 pub use item::Item;
 pub use line::{Line, NoItem};
-pub use reader::Reader;
+pub use reader::{Reader, read_line};
 pub use shrinking::shrink;
 pub use text::{FIRST_ITEM, Malformed, check_text};
 pub use writing::write;

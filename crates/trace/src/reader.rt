@@ -1,8 +1,8 @@
 // A reader carries a text and its place in it, and gives the text's lines one after the other.
-ghost use Rattle.std.specs.Prelude.{◌≡◌};
-ghost use Rattle.std.specs.Iterator.{YieldsFirst, item_count};
+ghost use Rattle.std.specs.Prelude.{◌≡◌, ⊤};
+ghost use Rattle.std.specs.Iterator.{YieldsFirst, MakesProgress, item_count};
 ghost use Rattle.trace.specs.Line.{line_at};
-ghost use Rattle.trace.specs.Lines.{lines_from};
+ghost use Rattle.trace.specs.Lines.{lines_from, item_in, place_after};
 
 use crate::item::Item;
 use crate::line::{Line, NoItem, line_at};
@@ -55,7 +55,13 @@ impl<'a> Iterator for Reader<'a> {
 
     ghost remaining = { item_count (λ r. lines_from r.text.now r.at) };
 
-    fn next(&mut self) -> Option<Result<Item, NoItem>> {
+    fn next(&mut self) -> Option<Result<Item, NoItem>>
+        ensures steps { YieldsFirst (λ r. lines_from r.text.now r.at) self.old result self.new }
+        ensures goes { MakesProgress (λ _. ⊤) (item_count (λ r. lines_from r.text.now r.at)) self.old result self.new }
+        ensures value { result ≡ item_in (line_at self.old.text.now self.old.at) }
+        ensures place { self.new.at ≡ place_after self.old.text.now self.old.at (line_at self.old.text.now self.old.at) }
+        ensures text { self.new.text ≡ self.old.text }
+    {
         match self.line()? {
             Ok(line) => {
                 self.at = line.next;
@@ -67,4 +73,11 @@ impl<'a> Iterator for Reader<'a> {
             }
         }
     }
+}
+
+// The line at a place of a text, for a caller that carries no reader.
+pub fn read_line(text: &[u8], at: usize) -> Option<Result<Line, NoItem>>
+    ensures { result ≡ line_at text.now at }
+{
+    Reader::new(text).moved(at).line()
 }
