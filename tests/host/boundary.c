@@ -778,6 +778,24 @@ static void bauds(const struct plan *plan)
         }
 }
 
+/* A run that is refused writes no output byte, not even what stands there: these lie where nothing can be written. */
+static void refused_outputs(void)
+{
+    static const uint8_t fixed[2] = {0x55, 0xAA};
+    static const uint8_t levels[2] = {0}, bad[2] = {LEVEL_FIRST_BAD, LEVEL_FIRST_BAD};
+    uint8_t record[WARPMAGPIE_RECORD_LEN], no_record[WARPMAGPIE_RECORD_LEN] = {0};
+    uint8_t *outputs = (uint8_t *)fixed;
+    warpmagpie_reset(record, sizeof record);
+    for (size_t len = 1; len <= COUNT(fixed); len++) {
+        expect("outputs of what is no record", len,
+               warpmagpie_run(no_record, sizeof no_record, levels, len, outputs, len), WARPMAGPIE_REFUSED_RECORD);
+        expect("outputs of another length", len, warpmagpie_run(record, sizeof record, levels, len, outputs, 3 - len),
+               WARPMAGPIE_REFUSED_LENGTH);
+        expect("outputs of a bad level", len, warpmagpie_run(record, sizeof record, bad, len, outputs, len),
+               WARPMAGPIE_REFUSED_LEVEL);
+    }
+}
+
 int main(int argc, char **argv)
 {
     struct plan plan = {.stride = argc > 1 && strcmp(argv[1], "short") == 0 ? SHORT_STRIDE : 1};
@@ -790,6 +808,7 @@ int main(int argc, char **argv)
         resets(&plan);
         run_lengths(&plan);
         bad_levels(&plan);
+        refused_outputs();
         level_holds(&plan);
         longest_holds();
         null_pointers(&plan);

@@ -26,6 +26,9 @@ pub fn settle_read(g: Result<Reading<Device>, Refusal>, image: &mut [u8], value:
     ensures value_after { value.new ≡ value_of g }
     ensures image_after { image.new ≡ put_back_read g image.old }
 {
-    *value = g.map_or(0, |read| read.value);
-    settle(g.map(|read| read.after), image)
+    let shown = g.map_or(0, |read| read.value);
+    let answer = settle(g.map(|read| read.after), image);
+    // After the record: where that can't be written, no value is told.
+    *value = shown;
+    answer
 }

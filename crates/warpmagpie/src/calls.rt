@@ -93,7 +93,14 @@ fn one_clock(image: &mut [u8], level: u8, output: &mut u8) -> u8
     ensures image_after { image.new ≡ record_after_run image.old (level ∷ []) (output.old ∷ []) }
     ensures output_after { output.new ∷ [] ≡ outputs_after_run image.old (level ∷ []) (output.old ∷ []) }
 {
-    told(clocked(image, level), *output, output)
+    // Not by `told`, which writes the place of a refusal too: no output byte is written where a run is refused.
+    match clocked(image, level) {
+        Ok(shown) => {
+            *output = shown;
+            0
+        }
+        Err(r) => r.number(),
+    }
 }
 
 pub fn warpmagpie_run(image: &mut [u8], levels: &[u8], outputs: &mut [u8]) -> u8
