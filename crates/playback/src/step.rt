@@ -46,8 +46,6 @@ fn read(d: Device, g: Result<Reading<Device>, Refusal>, value: u8, answer: u8) -
     }
 }
 
-// Not put into the replay's loop: there it made the archive 1,650 bytes larger than it may be.
-#[inline(never)]
 pub(crate) fn stepped(d: Device, i: Item) -> Step
     ensures { result ≡ step_of d i }
 {

@@ -127,6 +127,10 @@ impl Receiver {
     fn hold(self, rxen: bool, format: Format, rxd: bool, n: Ticks) -> Receiver
         ensures { result ≡ held_receiver rxen format self rxd n.0 }
     {
+        // Before the loop, of which the compiler would make a second one for a receiver that is off.
+        if !rxen {
+            return self;
+        }
         let listening = Listening {
             receiver: self,
             rxen,
