@@ -80,12 +80,11 @@ impl Target {
     pub(crate) fn is_best(self, ubrr: u32) -> bool
         ensures { result ≡ is_best_by self.clock self.k ubrr }
     {
-        let Ok(m) = u16::try_from(ubrr) else {
+        if (MOST_UBRR as u32) < ubrr {
             return false;
-        };
-        m <= MOST_UBRR
-            && self.is_larger_no_worse(m)
-            && (m == MOST_UBRR || self.is_smaller_no_worse(m + 1))
+        }
+        let m = ubrr as u16;
+        self.is_larger_no_worse(m) && (m == MOST_UBRR || self.is_smaller_no_worse(m + 1))
     }
 
     // The UBRR with the smallest absolute error, the larger on a tie.
